@@ -3,7 +3,7 @@ use Rattle.std.proofs.Common.{◌≡◌, ℕ, zero, suc, ◌+◌, ◌*◌, ◌<�
 use Rattle.std.proofs.lemmas.Bool.{cases_lt}
 use Rattle.std.proofs.lemmas.Bool.Decides.{nat_tests}
 use Rattle.std.specs.Prelude.{unsigned_abs}
-use Rattle.nil_word.specs.declared.word.Letter.{Letter}
+use Rattle.nil_word.specs.declared.letter.Letter.{Letter}
 use Rattle.nil_word.specs.declared.expr.Expr.{Expr, fold-roll-Expr}
 use Rattle.nil_word.specs.declared.expr.Expr.TheOpen as level
 use Rattle.nil_word.specs.declared.expr.Expr.TheVariants.{Pow, Conj, Comm, rolls-Pow, rolls-Conj, rolls-Comm}

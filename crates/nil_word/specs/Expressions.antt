@@ -4,7 +4,7 @@
 --   IsShaped n e     products of two and more, generators from 1 to n, exponents within MAX
 use Rattle.std.specs.Prelude.{◌≡◌, ℕ, zero, suc, ◌≤◌, ◌^◌, ◌-◌, nat_le, Bool, true, ◌&&◌, ℤ, pos, negsuc, List, [], ◌∷◌, ◌++◌, length, map}
 use Rattle.std.specs.List.{list_all}
-use Rattle.nil_word.specs.declared.word.Letter.{Letter}
+use Rattle.nil_word.specs.declared.letter.Letter.{Letter}
 use Rattle.nil_word.specs.Words.{up, inverse}
 use Rattle.nil_word.specs.declared.expr.Expr.{Expr, fold-Expr}
 use Rattle.nil_word.specs.declared.expr.Expr.TheOpen.{Expr-F, One, Gen, Product, Pow, Conj, Comm}

@@ -6,8 +6,9 @@ ghost use Rattle.nil_word.specs.Expressions.{repeated, raised, joined, conjugate
 
 use super::Memory;
 use super::expr::Expr;
+use super::letter::Letter;
 use super::unroll_fault::UnrollFault;
-use super::word::{Letter, Word};
+use super::word::Word;
 use std::alloc::Global;
 
 /// The word that an expression stands for, where it has at most `limit` letters. Neither time nor
