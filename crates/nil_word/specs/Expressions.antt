@@ -2,7 +2,7 @@
 --   unrolled e       the word that an expression stands for
 --   raised w z       a word repeated z times, or its inverse repeated -z times
 --   IsShaped n e     products of two and more, generators from 1 to n, exponents within MAX
-use Rattle.std.specs.Prelude.{◌≡◌, ℕ, zero, suc, ◌≤◌, ◌^◌, ◌-◌, nat_le, Bool, true, ◌&&◌, ℤ, pos, negsuc, List, [], ◌∷◌, ◌++◌, length, map}
+use Rattle.std.specs.Prelude.{◌≡◌, ℕ, zero, suc, ◌^◌, ◌-◌, nat_le, Bool, true, ◌&&◌, ℤ, pos, negsuc, List, [], ◌∷◌, ◌++◌, length, map}
 use Rattle.std.specs.List.{list_all}
 use Rattle.nil_word.specs.declared.letter.Letter.{Letter}
 use Rattle.nil_word.specs.Words.{up, inverse}

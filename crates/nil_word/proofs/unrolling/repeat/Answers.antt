@@ -1,4 +1,4 @@
-use Rattle.std.proofs.Common.{◌∙◌, sym, ap, ◌++◌, add-one, arith}
+use Rattle.std.proofs.Common.{◌∙◌, sym, ap, ◌++◌, add-one}
 use Rattle.nil_word.specs.Expressions.{repeated}
 use Rattle.nil_word.proofs.Expanding.{repeated-none, repeated-append}
 use Rattle.nil_word.proofs.unrolling.repeat.Goals as goal
