@@ -13,7 +13,7 @@ use Rattle.nil_word.specs.Examples.{heisenberg}
 use Rattle.nil_word.proofs.Congruences.{trans, back}
 use Rattle.hall_law.specs.Table.{added, single, exponents, IsPresentation, IsTable}
 use Rattle.hall_law.specs.Plan.{Factor, Powers, word_of, IsAscending, IsFactored, IsPower, IsPlanned, put, image_of, first_way, second_way}
-use Rattle.hall_law.specs.Sums.{sum_from}
+use Rattle.whole.specs.Sums.{sum_from}
 use Rattle.hall_law.specs.Quadratic.{quadratic}
 use Rattle.hall_law.specs.Examples.{straight_factors, bent_factors, straight, bent}
 use Rattle.hall_law.proofs.Ascending.{factors_present}
