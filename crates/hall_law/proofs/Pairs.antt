@@ -10,11 +10,18 @@ use Rattle.hall_law.proofs.Vectors.{IsAt, Vec, same_at}
 pub put_same : (x : List ℤ) (k : ℕ) (e : ℤ) → 1 ≤ k → k ≤ length x → entry (put x k e) k ≡ e
 put_same x k e low high = get_or-set_same x (k - 1) e (pos 0) (omega arith)
 
-pub put_other : (x : List ℤ) (k m : ℕ) (e : ℤ) → 1 ≤ k → 1 ≤ m → m ≢ k → entry (put x k e) m ≡ entry x m
-put_other x k m e low lower ne = get_or-set_other x (k - 1) (m - 1) e (pos 0) (λ e. ne (omega arith))
+pub put_other : (x : List ℤ) (k m : ℕ) (e : ℤ) → 1 ≤ k → 1 ≤ m → m ≢ k
+    → entry (put x k e) m ≡ entry x m
+put_other x k m e low lower ne =
+    get_or-set_other x (k - 1) (m - 1) e (pos 0) (λ e. ne (omega arith))
 
 pub put_at : (n i : ℕ) (x : List ℤ) (e : ℤ) → 1 ≤ i → IsAt n i x → IsAt n i (put x i e)
-put_at n i x e low h = record { size = length-set x (i - 1) e ∙ h.size; clear = λ m a b. put_other x i m e low a (omega arith) ∙ h.clear m a b }
+put_at n i x e low h =
+    record {
+      size = length-set x (i - 1) e ∙ h.size;
+      clear = λ m a b.
+          put_other x i m e low a (omega arith) ∙ h.clear m a b;
+    }
 
 pub lower_at : (n i : ℕ) (x : List ℤ) → IsAt n (suc i) x → IsAt n i x
 lower_at n i x h = record { size = h.size; clear = λ m a b. h.clear m a (omega arith) }
@@ -24,7 +31,8 @@ rest_at n i x low high h = record {
   size = length-set x (i - 1) (pos 0) ∙ h.size;
   clear = λ m a b.
       elim (eq-or-lt_of_le (let z : m ≤ i = omega arith in z)) [
-        | inl e ↦ subst (λ (k : ℕ). entry (put x i (pos 0)) k ≡ pos 0) (sym e) (put_same x i (pos 0) low (omega (arith, h.size)))
+        | inl e ↦ subst (λ (k : ℕ). entry (put x i (pos 0)) k ≡ pos 0) (sym e)
+            (put_same x i (pos 0) low (omega (arith, h.size)))
         | inr l ↦ put_other x i m (pos 0) low a (omega arith) ∙ h.clear m a l
       ];
 }
@@ -45,7 +53,8 @@ module _ (n i : ℕ) (least : 1 ≤ i) (most : i ≤ n) where
   pair x = (entry x.0 i, rest x)
 
   pub same_pair : (p q : ℤ × Vec n (suc i)) → p.0 ≡ q.0 → p.1 ≡ q.1 → p ≡ q
-  same_pair p q a b = ap (λ (t : ℤ). let r : ℤ × Vec n (suc i) = (t, p.1) in r) a ∙ ap (λ (u : Vec n (suc i)). let r : ℤ × Vec n (suc i) = (q.0, u) in r) b
+  same_pair p q a b = ap (λ (t : ℤ). let r : ℤ × Vec n (suc i) = (t, p.1) in r) a
+      ∙ ap (λ (u : Vec n (suc i)). let r : ℤ × Vec n (suc i) = (q.0, u) in r) b
 
   pub pair_whole : (p : ℤ × Vec n (suc i)) → pair (whole p) ≡ p
   pair_whole p =
@@ -55,8 +64,10 @@ module _ (n i : ℕ) (least : 1 ≤ i) (most : i ≤ n) where
       (λ m a b. elim (eqb_tells m i) [
         | inl e ↦
             subst (λ (k : ℕ). entry (rest (whole p)).0 k ≡ entry p.1.0 k) (sym e.1)
-            (put_same (put p.1.0 i p.0) i (pos 0) least (omega arith) ∙ sym (p.1.1.clear i least (omega arith)))
-        | inr e ↦ put_other (put p.1.0 i p.0) i m (pos 0) least a e.1 ∙ put_other p.1.0 i m p.0 least a e.1
+            (put_same (put p.1.0 i p.0) i (pos 0) least (omega arith)
+            ∙ sym (p.1.1.clear i least (omega arith)))
+        | inr e ↦ put_other (put p.1.0 i p.0) i m (pos 0) least a e.1
+            ∙ put_other p.1.0 i m p.0 least a e.1
       ]))
 
   pub whole_pair : (x : Vec n i) → whole (pair x) ≡ x
@@ -67,5 +78,6 @@ module _ (n i : ℕ) (least : 1 ≤ i) (most : i ≤ n) where
         | inl e ↦
             subst (λ (k : ℕ). entry (whole (pair x)).0 k ≡ entry x.0 k) (sym e.1)
             (put_same (put x.0 i (pos 0)) i (entry x.0 i) least (omega arith))
-        | inr e ↦ put_other (put x.0 i (pos 0)) i m (entry x.0 i) least a e.1 ∙ put_other x.0 i m (pos 0) least a e.1
+        | inr e ↦ put_other (put x.0 i (pos 0)) i m (entry x.0 i) least a e.1
+            ∙ put_other x.0 i m (pos 0) least a e.1
       ])

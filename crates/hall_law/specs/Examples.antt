@@ -1,6 +1,7 @@
 -- A presentation that isn't consistent.
 --   bent           generators a_1 to a_5, and [a_3,a_2] = a_4, [a_4,a_1] = a_5
---   straight       the same without [a_4,a_1] = a_5: it is central, and above level 1 it has the relations of bent
+--   straight       the same without [a_4,a_1] = a_5: it is central, and has the relations of bent
+--                  above level 1
 --   bent_factors, straight_factors   their right sides as factors
 use Rattle.std.specs.Prelude.{ℕ, pos, List, [], ◌∷◌, ◌==◌, ◌&&◌, if◌then◌else◌}
 use Rattle.nil_word.specs.Congruence.{Relations}

@@ -14,11 +14,14 @@ use Rattle.nil_word.specs.Congruence.{Relations, Congruent}
 use Rattle.hall_law.specs.Table.{Operation, zeros, applied, IsPresentation, IsTable}
 
 abbrev pub OfTables : (Relations → ℕ → Operation → Type 0) → Type 0
-OfTables P = (rels : Relations) (level : ℕ) (f : Operation) → IsPresentation rels → IsTable rels level f → P rels level f
+OfTables P =
+    (rels : Relations) (level : ℕ) (f : Operation)
+    → IsPresentation rels → IsTable rels level f → P rels level f
 
 abbrev pub LettersStand : Relations → ℕ → Operation → Type 0
 LettersStand rels level f =
-    (w : List Letter) → IsWordIn level rels.count w → Congruent rels level (ordered (applied rels.count f w (zeros rels.count))) w
+    (w : List Letter) → IsWordIn level rels.count w
+    → Congruent rels level (ordered (applied rels.count f w (zeros rels.count))) w
 
 abbrev pub ProductsStand : Relations → ℕ → Operation → Type 0
 ProductsStand rels level f =
@@ -27,7 +30,8 @@ ProductsStand rels level f =
 
 abbrev pub Associates : Relations → ℕ → Operation → Type 0
 Associates rels level f =
-    (x y z : List ℤ) → IsVector rels.count level x → IsVector rels.count level y → IsVector rels.count level z
+    (x y z : List ℤ) → IsVector rels.count level x → IsVector rels.count level y
+    → IsVector rels.count level z
     → f (f x y) z ≡ f x (f y z)
 
 pub record TakesOnce (n level : ℕ) (g : List ℤ → List ℤ) (y : List ℤ) : Type 0 where
@@ -38,7 +42,8 @@ pub record TakesOnce (n level : ℕ) (g : List ℤ → List ℤ) (y : List ℤ) 
 
 abbrev pub SolvesOnce : Relations → ℕ → Operation → Type 0
 SolvesOnce rels level f =
-    (a b : List ℤ) → IsVector rels.count level a → IsVector rels.count level b → TakesOnce rels.count level (f a) b
+    (a b : List ℤ) → IsVector rels.count level a → IsVector rels.count level b
+    → TakesOnce rels.count level (f a) b
 
 abbrev pub IsOnlyTable : Relations → ℕ → Operation → Type 0
 IsOnlyTable rels level f =
