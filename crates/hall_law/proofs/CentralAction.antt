@@ -1,18 +1,20 @@
 -- In a central presentation a letter a_k adds 1 at k, and at each m the sum over j > k of the
 -- exponent of m in the right side of (k, j) times entry j.
 --   n generators · c i j m the exponent of m in the right side of (i, j) · a letter · x y vectors
-use Rattle.std.proofs.Common.{◌≡◌, ◌≢◌, ℕ, suc, ◌≤◌, ◌<◌, ◌+◌, ◌-◌, ◌⊎◌, Bool, true, false, ℤ, pos, ◌+ℤ◌, ◌*ℤ◌, List, length, map, refl, ◌∙◌, ap, inl, inr, arith}
+use Rattle.std.proofs.Common.{◌≡◌, ◌≢◌, ℕ, suc, ◌≤◌, ◌<◌, ◌+◌, ◌-◌, ◌⊎◌, Bool, true, false, ℤ, pos, negsuc, neg_ℤ, ◌+ℤ◌, ◌*ℤ◌, List, length, map, refl, ◌∙◌, ap, inl, inr, arith}
 use Rattle.std.proofs.lemmas.List.Elements.{All-weaker}
 use Rattle.std.proofs.Math.IntN.{one, zero-*ℤ, *ℤ-zero, *ℤ-one, *ℤ_comm}
 use Rattle.nil_word.specs.declared.letter.Letter.{Letter}
 use Rattle.nil_word.specs.Congruence.{Relations}
 use Rattle.nil_word.specs.Central.{IsCentralBy}
 use Rattle.nil_word.specs.Exponents.{entry, one_at, signed, numbers, count}
+use Rattle.std.proofs.lemmas.Int.{ints}
 use Rattle.whole.proofs.Laws.{mul-neg_right}
+use Rattle.hall_law.proofs.Vectors.{part, part_sum, part_zero}
 use Rattle.whole.specs.Sums.{sum_from}
 use Rattle.whole.proofs.Sums.{sum_from-zero, sum_from-same, sum_from-neg, sum_from-scale, sum_from-only}
 use Rattle.hall_law.proofs.Entries.{length-map_numbers, entry-map_numbers}
-use Rattle.hall_law.proofs.Counting.{one_at_same, one_at_other, count_none}
+use Rattle.hall_law.proofs.Counting.{one_at_same, one_at_other, one_at_part, count_none}
 
 -- sums with signs, with a factor on the right, and in which one term counts
 pub signed-scale : (s : Bool) (k z : ℤ) → k *ℤ signed s z ≡ signed s (k *ℤ z)
@@ -37,6 +39,22 @@ sum_from-one_at start n l f a b =
     sum_from-only start n l (λ j. f j *ℤ one_at j l) a b
     (λ j c d ne. ap (λ (z : ℤ). f j *ℤ z) (one_at_other j l ne) ∙ *ℤ-zero (f j))
     ∙ (ap (λ (z : ℤ). f l *ℤ z) (one_at_same l) ∙ *ℤ-one (f l))
+
+pub signed_part : (s : Bool) (m k : ℕ) → signed s (one_at m k) ≡ part m k (signed s (pos 1))
+signed_part true m k = one_at_part m k
+signed_part false m k =
+    let both : part m k (pos 0) ≡ part m k (pos 1) +ℤ part m k (negsuc 0) =
+    part_sum m k (pos 1) (negsuc 0) in
+    omega (arith, ints, one_at_part m k, both, part_zero m k)
+
+pub times_signed : (s : Bool) (z : ℤ) → z *ℤ signed s (pos 1) ≡ signed s z
+unfolding one
+times_signed true z = *ℤ-one z
+times_signed false z = mul-neg_right z (pos 1) ∙ ap neg_ℤ (*ℤ-one z)
+
+pub signed_sum : (s : Bool) (a b : ℤ) → signed s (a +ℤ b) ≡ signed s a +ℤ signed s b
+signed_sum true a b = refl
+signed_sum false a b = omega (arith, ints)
 
 module _ (n : ℕ) (c : ℕ → ℕ → ℕ → ℤ) where
   abbrev pub rest : ℕ → List ℤ → ℕ → ℤ
