@@ -8,8 +8,8 @@ use Rattle.nil_word.specs.Congruence.{Relations}
 use Rattle.nil_word.specs.Central.{IsCentralBy}
 use Rattle.nil_word.specs.Exponents.{entry, one_at, signed, numbers, count}
 use Rattle.whole.proofs.Laws.{mul-neg_right}
-use Rattle.hall_law.specs.Sums.{sum_from}
-use Rattle.hall_law.proofs.Sums.{sum_from-zero, sum_from-same, sum_from-neg, sum_from-scale, sum_from-only}
+use Rattle.whole.specs.Sums.{sum_from}
+use Rattle.whole.proofs.Sums.{sum_from-zero, sum_from-same, sum_from-neg, sum_from-scale, sum_from-only}
 use Rattle.hall_law.proofs.Entries.{length-map_numbers, entry-map_numbers}
 use Rattle.hall_law.proofs.Counting.{one_at_same, one_at_other, count_none}
 
