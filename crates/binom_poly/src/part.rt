@@ -37,4 +37,3 @@ impl PartialOrd for Part {
         Some(self.cmp(other))
     }
 }
-
