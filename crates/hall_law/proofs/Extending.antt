@@ -21,7 +21,8 @@ use Rattle.hall_law.proofs.Running.{product_is_run}
 use Rattle.hall_law.proofs.Twisted.{twisted_assoc, twisted_unit_left, twisted_unit_right}
 use Rattle.hall_law.proofs.Vectors.{IsAt, Vec, same_vec, same_at, at_of, vector_of, zeros_at, zeros_entry, single_at, added_other, length-added, part_same, added_writes}
 use Rattle.hall_law.proofs.Acting.{letter, letter_is}
-use Rattle.hall_law.proofs.Summing.{one, join, turn, group, forth, back, auto, run, run_one, E, P, P_is, forth_generator, image_at}
+use Rattle.hall_law.proofs.Summing.{one, join, turn, group}
+use Rattle.hall_law.proofs.Automorphism.{forth, back, auto, run, run_one, E, P, P_is, forth_generator, image_at}
 
 module _ {rels : Relations} {factors : ℕ → ℕ → List Factor} {i : ℕ} {f : List ℤ → List ℤ → List ℤ}
     {Q : List ℤ → ℤ → List ℤ} (ready : IsPlanned rels factors i f Q)
@@ -117,3 +118,40 @@ module _ {rels : Relations} {factors : ℕ → ℕ → List Factor} {i : ℕ} {f
       ∙ (ap made (twisted_unit_right join' one' (turn ready) (group ready) (forth ready alike)
       (back ready alike) (auto ready alike) (split x))
       ∙ whole_pair rels.count i ready.least most x)
+
+  abbrev pub alone : (k : ℕ) → ℤ → i ≤ k → Vec rels.count i
+  alone k e h = (single rels.count k e, single_at rels.count i k e (omega arith) h)
+
+  -- a vector with one entry, at i or above
+  pub split_first : (e : ℤ) (low : i ≤ i)
+      → split (alone i e low) ≡ (e, one')
+  split_first e low =
+      let w = added_writes (zeros rels.count) i e ready.least
+      (omega (arith, zero_at.size)) in
+      same_pair rels.count i ready.least most
+      (split (alone i e low)) (e, one')
+      (let p = w.at i ready.least in
+      omega (arith, ints, p, zeros_entry rels.count i, part_same i i e refl))
+      (same_at rels.count (suc i) (tail (alone i e low))
+      one'
+      (λ m a b. elim (eqb_tells m i) [
+        | inl q ↦
+            subst (λ (k : ℕ). entry (tail (alone i e low)).0 k
+            ≡ entry (zeros rels.count) k)
+            (sym q.1)
+            (put_same (single rels.count i e) i (pos 0) ready.least
+            (omega (arith, (alone i e low).1.size)) ∙ sym (zeros_entry rels.count i))
+        | inr q ↦ put_other (single rels.count i e) i m (pos 0) ready.least a q.1
+            ∙ added_other (zeros rels.count) i m e ready.least a q.1
+      ]))
+
+  -- a vector that is 0 at i
+  pub split_above : (u : Vec rels.count (suc i)) (x : Vec rels.count i) → x.0 ≡ u.0
+      → split x ≡ (pos 0, u)
+  split_above u x same =
+      let none : entry x.0 i ≡ pos 0 = ap (λ (v : List ℤ). entry v i) same
+      ∙ u.1.clear i ready.least (omega arith) in
+      same_pair rels.count i ready.least most (split x)
+      (pos 0, u) none
+      (same_vec rels.count (suc i) (tail x) u
+      (ap (λ (e : ℤ). put x.0 i e) (sym none) ∙ (set-get_or x.0 (i - 1) (pos 0) ∙ same)))

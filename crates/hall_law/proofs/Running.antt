@@ -14,7 +14,8 @@ use Rattle.hall_law.proofs.Twisted.{run_forth, run_next}
 use Rattle.hall_law.proofs.Vectors.{IsAt, Vec, same_vec, at_of}
 use Rattle.hall_law.proofs.Acting.{reaches, ordered_in}
 use Rattle.hall_law.proofs.Pushing.{gathered_pushes}
-use Rattle.hall_law.proofs.Summing.{one, join, turn, move, lifted, lifted_is, group, collected_is, pushed, assembled_is, E, right_low, P_word, forth, back, auto, phi_is, run, runs_joined, run_word, forth_generator}
+use Rattle.hall_law.proofs.Summing.{one, join, turn, move, lifted, lifted_is, group, collected_is, pushed, assembled_is}
+use Rattle.hall_law.proofs.Automorphism.{E, right_low, P_word, forth, back, auto, phi_is, run, runs_joined, run_word, forth_generator}
 
 module _ {rels : Relations} {factors : ℕ → ℕ → List Factor} {i : ℕ} {f : List ℤ → List ℤ → List ℤ}
     {Q : List ℤ → ℤ → List ℤ} (ready : IsPlanned rels factors i f Q)
