@@ -1,27 +1,25 @@
 -- The images p_l of the generators above a level, the ways of an overlap as products of them, and
 -- phi as an automorphism where these agree.
-use Rattle.std.proofs.Common.{◌≡◌, ℕ, suc, ◌≤◌, ◌<◌, ◌+◌, ◌-◌, Bool, true, false, ℤ, pos, ◌+ℤ◌, List, [], ◌∷◌, length, drop, get_or, All, refl, sym, ◌∙◌, ap, subst, arith}
+use Rattle.std.proofs.Common.{◌≡◌, ℕ, suc, ◌≤◌, ◌<◌, Bool, true, false, ℤ, pos, ◌+ℤ◌, List, [], ◌∷◌, All, refl, sym, ◌∙◌, ap, arith}
 use Rattle.std.proofs.lemmas.Int.{ints}
-use Rattle.std.proofs.lemmas.List.{length-drop}
 use Rattle.std.proofs.lemmas.List.Elements.{All-head, All-tail, All-weaker}
 use Rattle.nil_word.specs.declared.letter.Letter.{Letter}
-use Rattle.nil_word.specs.Words.{up, down, ordered, ordered_from, IsIn, IsWordIn, IsVector}
+use Rattle.nil_word.specs.Words.{up, down, IsIn, IsWordIn}
 use Rattle.nil_word.specs.Congruence.{Relations, cancels}
 use Rattle.nil_word.specs.Exponents.{entry}
 use Rattle.hall_law.proofs.Actions.{acts}
-use Rattle.hall_law.proofs.Groups.{IsGroup, pow, iterate, IsAutomorphism}
-use Rattle.hall_law.specs.Table.{zeros, exponents}
-use Rattle.hall_law.specs.Plan.{Factor, word_of, factors_from, collected, assembled, image_of, first_way, second_way, DoAgree, phi, IsPlanned}
+use Rattle.hall_law.proofs.Groups.{iterate, IsAutomorphism}
+use Rattle.hall_law.specs.Table.{exponents}
+use Rattle.hall_law.specs.Plan.{Factor, collected, image_of, first_way, second_way, DoAgree, phi, IsPlanned}
 use Rattle.hall_law.proofs.Premises.{above}
 use Rattle.hall_law.proofs.Counting.{length-exponents, entry_exponents}
-use Rattle.hall_law.proofs.Groups.{power_is, inverse_is, of_unit}
+use Rattle.hall_law.proofs.Groups.{inverse_is, of_unit}
 use Rattle.hall_law.proofs.Twisted.{run_joins}
-use Rattle.hall_law.proofs.Vectors.{IsAt, Vec, same_vec, same_at, at_of, lift, lift_is, zeros_entry, added_at, part, part_same, part_other, added_writes}
-use Rattle.hall_law.proofs.Acting.{some, list_in, letter, from_origin, act_writes, above_kept}
+use Rattle.hall_law.proofs.Vectors.{IsAt, Vec, same_vec, same_at, zeros_entry, added_at, part, part_same, part_other, added_writes}
+use Rattle.hall_law.proofs.Acting.{letter, from_origin, act_writes, above_kept}
 use Rattle.hall_law.proofs.TableGroup.{right_none, right_written, letter_in, respects}
-use Rattle.hall_law.proofs.Pushing.{turned, push, push_same, push_mapped, gathered, gathered_pushes}
-use Rattle.hall_law.proofs.OrderedWords.{word_of-factors_from, factors_from_in, ordered_drop}
-use Rattle.hall_law.proofs.Levels.{unit, times, over, does, is_group, Lies}
+use Rattle.hall_law.proofs.Pushing.{turned, push_same, push_mapped, gathered_pushes}
+use Rattle.hall_law.proofs.Levels.{Lies}
 use Rattle.hall_law.proofs.Homomorphisms.{image, image_word, image_automorphism, before}
 use Rattle.hall_law.proofs.Summing.{one, join, turn, move, lifted, group, lifted_is, collected_is, pushed, assembled_is}
 

@@ -1,22 +1,11 @@
 -- The products of entries in the table of a central presentation.
 --   n generators · c i j m the exponent of m in the right side of (i, j) · a letter · x y vectors
-use Rattle.std.proofs.Common.{◌≡◌, ◌≢◌, ℕ, suc, ◌≤◌, ◌<◌, ◌-◌, ◌⊎◌, Bool, true, false, ℤ, pos, negsuc, ◌+ℤ◌, ◌*ℤ◌, neg_ℤ, List, length, map, refl, sym, ◌∙◌, ap, inl, inr, arith}
-use Rattle.std.proofs.lemmas.Int.{ints}
-use Rattle.std.proofs.Math.IntN.{one, zero-*ℤ, *ℤ-zero, *ℤ-one}
-use Rattle.nil_word.specs.declared.letter.Letter.{Letter}
-use Rattle.nil_word.specs.Words.{up, IsVector}
-use Rattle.nil_word.specs.Congruence.{Relations, IsAbove}
-use Rattle.nil_word.specs.Central.{IsCentralBy}
-use Rattle.nil_word.specs.Exponents.{entry, one_at, signed, numbers, count}
-use Rattle.whole.proofs.Laws.{mul-add, mul-neg_right}
-use Rattle.hall_law.specs.Table.{zeros, added, single, sign, of_letter, exponents, IsZeroAbove, IsTable}
+use Rattle.std.proofs.Common.{◌≡◌, ◌≢◌, ℕ, suc, ◌≤◌, ◌-◌, ℤ, pos, ◌*ℤ◌, List, ◌∙◌, ap, arith}
+use Rattle.std.proofs.Math.IntN.{zero-*ℤ, *ℤ-zero}
+use Rattle.nil_word.specs.Exponents.{entry}
 use Rattle.whole.specs.Sums.{sum_from}
-use Rattle.hall_law.specs.Quadratic.{quadratic}
-use Rattle.whole.proofs.Sums.{sum_from-zero, sum_from-same, sum_from-add, sum_from-only}
-use Rattle.hall_law.proofs.Entries.{same_entries, length-map_numbers, entry-map_numbers}
-use Rattle.hall_law.proofs.Vectors.{vector_of, zeros_entry, zeros_at, added_writes, length-added, part, part_same, part_other, part_sum, part_zero}
-use Rattle.hall_law.proofs.Counting.{one_at_part, entry_exponents, length-exponents}
-use Rattle.hall_law.proofs.CentralAction.{signed_part, times_signed, signed_sum, signed-scale, sum_from-signed, sum_from-times, sum_from-one_at, rest, act, length-act, entry-act, IsUnused, IsFree, rest_none, rest_zero, each}
+use Rattle.whole.proofs.Sums.{sum_from-zero, sum_from-same, sum_from-only}
+use Rattle.hall_law.proofs.CentralAction.{sum_from-times, rest, IsUnused, rest_none, rest_zero}
 
 module _ (n : ℕ) (c : ℕ → ℕ → ℕ → ℤ) where
   -- the products of entries

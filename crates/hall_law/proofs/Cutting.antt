@@ -1,26 +1,15 @@
 -- Vectors cut off from a place on, and vectors that are equal below a place.
 -- + y_k and a part of the entries below k.
-use Rattle.std.proofs.Common.{◌≡◌, ℕ, zero, suc, ◌≤◌, ◌<◌, ◌+◌, ◌-◌, Bool, ltb, ℤ, pos, negsuc, ◌+ℤ◌, List, [], ◌∷◌, length, drop, get_or, All, refl, sym, ◌∙◌, ap, subst, inl, inr, arith}
+use Rattle.std.proofs.Common.{◌≡◌, ℕ, suc, ◌≤◌, ◌<◌, Bool, ltb, ℤ, pos, ◌+ℤ◌, List, length, refl, sym, ◌∙◌, ap, subst, inl, inr, arith}
 use Rattle.std.proofs.Math.Bool.{cond}
 use Rattle.std.proofs.lemmas.Int.{ints}
-use lib.IntN.{suc_ℤ, +ℤ_one}
 use Rattle.std.proofs.lemmas.Bool.{lt-ltb, le-ltb, cases_lt}
-use Rattle.std.proofs.lemmas.Bool.Decides.{eqb_tells}
-use Rattle.std.proofs.lemmas.List.{length-drop, get_or-drop}
-use Rattle.std.proofs.lemmas.List.Elements.{All-weaker}
-use Rattle.std.proofs.Math.Nat.{eq-or-lt_of_le}
 use Rattle.nil_word.specs.Words.{IsVector}
-use Rattle.nil_word.specs.Congruence.{Relations}
 use Rattle.nil_word.specs.Exponents.{entry}
 use Rattle.hall_law.proofs.Entries.{same_entries, length-map_numbers, entry-map_numbers}
-use Rattle.hall_law.specs.Table.{zeros, IsClosed}
-use Rattle.hall_law.specs.Plan.{Factor, factors_from, IsPower, collected, assembled, put, summed, IsPlanned}
-use Rattle.hall_law.specs.Shape.{AreStepped, cut, IsShaped}
-use Rattle.hall_law.proofs.Vectors.{IsAt, at_of, vector_of, zeros_at, zeros_entry}
-use Rattle.hall_law.proofs.Pairs.{put_same, put_other, rest_at}
-use Rattle.hall_law.proofs.OrderedWords.{factors_from_in}
-use Rattle.hall_law.proofs.Grading.{graded, tail_power}
-use Rattle.hall_law.proofs.Stepping.{collected_in, in_level}
+use Rattle.hall_law.specs.Table.{IsClosed}
+use Rattle.hall_law.specs.Shape.{cut, IsShaped}
+use Rattle.hall_law.proofs.Vectors.{IsAt, at_of}
 
 cut_entry : (n k : ℕ) (x : List ℤ) (m : ℕ) → 1 ≤ m → m ≤ n
     → entry (cut n k x) m ≡ cond (ltb m k) (entry x m) (pos 0)

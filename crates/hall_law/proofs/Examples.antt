@@ -1,12 +1,12 @@
 -- Small instances: a quadratic product, and an overlap whose two ways differ.
 --   j l generators · b c tests of them · z vector · Q powers
-use Rattle.std.proofs.Common.{◌≡◌, ◌≢◌, ℕ, zero, suc, ◌≤◌, ◌<◌, Bool, true, false, ◌==◌, ◌&&◌, if◌then◌else◌, ℤ, pos, ◌+ℤ◌, List, [], ◌∷◌, slice_get, Some, All, refl, sym, ◌∙◌, ap, subst, arith, lit≤, lit<}
+use Rattle.std.proofs.Common.{◌≡◌, ℕ, zero, suc, ◌≤◌, ◌<◌, Bool, true, false, ◌==◌, ◌&&◌, if◌then◌else◌, ℤ, pos, List, [], ◌∷◌, slice_get, Some, All, refl, sym, ◌∙◌, ap, subst, arith, lit≤, lit<}
 use Rattle.std.proofs.lemmas.Int.{ints}
 use Rattle.std.proofs.lemmas.Bool.Decides.{nat_tests}
 use Rattle.std.proofs.lemmas.List.Elements.{All-nil, All-cons}
 use Rattle.nil_word.specs.declared.letter.Letter.{Letter}
 use Rattle.nil_word.specs.Words.{up, ordered, IsVector}
-use Rattle.nil_word.specs.Congruence.{Relations, Congruent, IsConsistent}
+use Rattle.nil_word.specs.Congruence.{Congruent, IsConsistent}
 use Rattle.nil_word.specs.Central.{IsCentralBy}
 use Rattle.nil_word.specs.Exponents.{entry}
 use Rattle.nil_word.specs.Examples.{heisenberg}

@@ -1,28 +1,21 @@
 -- The vectors of a level under the summed table are pairs of a whole number and a vector above,
 -- with the twisted product.
 -- number and a vector above.
-use Rattle.std.proofs.Common.{◌≡◌, ℕ, suc, ◌≤◌, ◌<◌, ◌-◌, ℤ, pos, ◌+ℤ◌, List, length, refl, sym, ◌∙◌, ap, subst, inl, inr, arith}
+use Rattle.std.proofs.Common.{◌≡◌, ℕ, suc, ◌≤◌, ◌-◌, ℤ, pos, ◌+ℤ◌, List, refl, sym, ◌∙◌, ap, subst, inl, inr, arith}
 use Rattle.std.proofs.lemmas.Int.{ints}
-use Rattle.std.proofs.lemmas.List.{length-set, set-get_or, set-set}
-use Rattle.std.proofs.Math.Nat.{eq-or-lt_of_le}
-use Rattle.std.proofs.lemmas.Bool.{cases_lt}
+use Rattle.std.proofs.lemmas.List.{set-get_or}
 use Rattle.std.proofs.lemmas.Bool.Decides.{eqb_tells}
-use Rattle.hall_law.proofs.Entries.{same_entries}
-use lib.IntN.{+ℤ_idr}
-use Rattle.nil_word.specs.declared.letter.Letter.{Letter}
-use Rattle.nil_word.specs.Words.{up, IsIn, IsVector}
+use Rattle.nil_word.specs.Words.{IsVector}
 use Rattle.nil_word.specs.Congruence.{Relations}
 use Rattle.nil_word.specs.Exponents.{entry}
-use Rattle.hall_law.specs.Table.{zeros, added, single, sign, of_letter, exponents, IsZeroAbove, IsClosed, IsMultiplication}
-use Rattle.hall_law.specs.Plan.{Factor, image_of, DoAgree, AreImages, put, summed, IsPlanned}
-use Rattle.hall_law.proofs.Premises.{above}
+use Rattle.hall_law.specs.Table.{zeros, single, IsClosed}
+use Rattle.hall_law.specs.Plan.{Factor, DoAgree, AreImages, put, summed, IsPlanned}
 use Rattle.hall_law.proofs.Pairs.{put_same, put_other, rest, whole, pair, same_pair, pair_whole, whole_pair, drop_put}
 use Rattle.hall_law.proofs.Running.{product_is_run}
 use Rattle.hall_law.proofs.Twisted.{twisted_assoc, twisted_unit_left, twisted_unit_right}
-use Rattle.hall_law.proofs.Vectors.{IsAt, Vec, same_vec, same_at, at_of, vector_of, zeros_at, zeros_entry, single_at, added_other, length-added, part_same, added_writes}
-use Rattle.hall_law.proofs.Acting.{letter, letter_is}
+use Rattle.hall_law.proofs.Vectors.{IsAt, Vec, same_vec, same_at, at_of, vector_of, zeros_at, zeros_entry, single_at, added_other, part_same, added_writes}
 use Rattle.hall_law.proofs.Summing.{one, join, turn, group}
-use Rattle.hall_law.proofs.Automorphism.{forth, back, auto, run, run_one, E, P, P_is, forth_generator, image_at}
+use Rattle.hall_law.proofs.Automorphism.{forth, back, auto, run}
 
 module _ {rels : Relations} {factors : ℕ → ℕ → List Factor} {i : ℕ} {f : List ℤ → List ℤ → List ℤ}
     {Q : List ℤ → ℤ → List ℤ} (ready : IsPlanned rels factors i f Q)

@@ -1,28 +1,24 @@
 -- A homomorphism that keeps the first entries of vectors takes each vector exactly once; so do
 -- images of the generators that keep the relations.
-use Rattle.std.proofs.Common.{◌≡◌, ℕ, zero, suc, ◌≤◌, ◌<◌, ◌+◌, ◌-◌, Bool, true, false, ℤ, pos, ◌+ℤ◌, neg_ℤ, List, [], ◌∷◌, ◌++◌, get_or, refl, sym, ◌∙◌, ap, subst, inl, inr, arith}
+use Rattle.std.proofs.Common.{◌≡◌, ℕ, zero, suc, ◌≤◌, ◌<◌, ◌+◌, ◌-◌, Bool, true, false, ℤ, pos, ◌+ℤ◌, neg_ℤ, List, [], ◌∷◌, refl, sym, ◌∙◌, ap, subst, inl, inr, arith}
 use Rattle.std.proofs.lemmas.Int.{ints}
-use Rattle.std.proofs.lemmas.List.Elements.{All-head, All-tail, All-append}
+use Rattle.std.proofs.lemmas.List.Elements.{All-head, All-tail}
 use Rattle.std.proofs.Math.Nat.{eq-or-lt_of_le}
 use Rattle.nil_word.specs.declared.letter.Letter.{Letter}
-use Rattle.nil_word.specs.Words.{ordered, inverse, IsIn, IsWordIn}
+use Rattle.nil_word.specs.Words.{ordered, IsIn, IsWordIn}
 use Rattle.nil_word.specs.Congruence.{Relations}
 use Rattle.nil_word.specs.Exponents.{entry, one_at, signed, count}
 use Rattle.hall_law.proofs.Actions.{acts, acts-append}
-use Rattle.nil_word.proofs.Congruences.{lower}
-use Rattle.nil_word.proofs.Inverses.{IsWordIn-inverse}
-use Rattle.nil_word.proofs.Ordering.{ordered_exists}
-use Rattle.hall_law.proofs.Groups.{IsGroup, IsAutomorphism}
+use Rattle.hall_law.proofs.Groups.{IsAutomorphism}
 use Rattle.hall_law.specs.Table.{zeros, single}
 use Rattle.hall_law.proofs.Premises.{Given}
-use Rattle.hall_law.proofs.OrderedWords.{ordered_from_in}
 use Rattle.hall_law.proofs.Groups.{cancel_left, solved, of_unit, of_inverse}
-use Rattle.hall_law.proofs.Vectors.{IsAt, Vec, same_at, at_of, lift, lift_is, zeros_at, zeros_entry, single_at, part, part_same, part_other, added_writes}
-use Rattle.hall_law.proofs.Counting.{count-append, count-inverse, count_ordered, count_alike, one_at_part}
-use Rattle.hall_law.proofs.Acting.{mul, origin, act, reaches, some}
-use Rattle.hall_law.proofs.TableGroup.{inv, group, words_alike, product_acts, stands, product_stands}
+use Rattle.hall_law.proofs.Vectors.{Vec, lift, lift_is, zeros_at, zeros_entry, single_at, part, part_same, part_other, added_writes}
+use Rattle.hall_law.proofs.Counting.{one_at_part}
+use Rattle.hall_law.proofs.Acting.{some}
+use Rattle.hall_law.proofs.TableGroup.{stands, product_stands}
 use Rattle.hall_law.proofs.Pushing.{turned, push, push_from, push_alike}
-use Rattle.hall_law.proofs.Levels.{unit, times, over, does, is_group, IsBelow, Lies, lies_word, lies_in, lies_count, lies_times, lies_over, lies_unit, lies_next, all_zero}
+use Rattle.hall_law.proofs.Levels.{unit, times, over, does, is_group, IsBelow, Lies, lies_in, lies_count, lies_times, lies_over, lies_unit, lies_next, all_zero}
 
 module _ {rels : Relations} {level : ℕ} {f : List ℤ → List ℤ → List ℤ}
     (t : Given rels level f) where

@@ -1,12 +1,10 @@
 -- With a multiplication table congruent words act alike on vectors, and the vectors are a group.
 -- word applied to 0 gives its vector: the vectors are a group.
-use Rattle.std.proofs.Common.{◌≡◌, ◌≢◌, ℕ, zero, suc, ◌≤◌, ◌<◌, ◌+◌, ◌-◌, Bool, ℤ, pos, negsuc, ◌+ℤ◌, List, [], ◌∷◌, ◌++◌, length, replicate, get_or, All, refl, sym, ◌∙◌, ap, subst, inl, inr, arith}
+use Rattle.std.proofs.Common.{◌≡◌, ◌≢◌, ℕ, suc, ◌≤◌, ◌<◌, ◌-◌, Bool, ℤ, pos, ◌+ℤ◌, List, [], ◌∷◌, ◌++◌, length, get_or, All, refl, sym, ◌∙◌, ap, subst, arith}
 use Rattle.std.proofs.lemmas.Int.{ints}
-use Rattle.std.proofs.lemmas.Bool.{cases_lt}
-use Rattle.std.proofs.lemmas.List.Elements.{All-nil, All-cons, All-head, All-tail, All-append, All-weaker}
-use Rattle.std.proofs.Math.Nat.{eq-or-lt_of_le}
+use Rattle.std.proofs.lemmas.List.Elements.{All-nil, All-cons, All-append, All-weaker}
 use Rattle.nil_word.specs.declared.letter.Letter.{Letter}
-use Rattle.nil_word.specs.Words.{up, down, power, ordered_from, ordered, inverse, IsIn, IsWordIn, IsVector}
+use Rattle.nil_word.specs.Words.{up, down, ordered, inverse, IsIn, IsWordIn}
 use Rattle.nil_word.specs.Congruence.{Relations, IsRelation, moves, cancels, cancels_back, Congruent, IsConsistent}
 use Rattle.nil_word.specs.Exponents.{entry, count}
 use Rattle.hall_law.proofs.Actions.{acts, acts-append, alike}
@@ -14,11 +12,10 @@ use Rattle.nil_word.proofs.Congruences.{cancels_after, cancels_before}
 use Rattle.nil_word.proofs.Inverses.{IsWordIn-inverse}
 use Rattle.nil_word.proofs.Ordering.{ordered_exists}
 use Rattle.hall_law.proofs.Groups.{IsGroup}
-use Rattle.hall_law.specs.Table.{zeros, added, sign, of_letter, exponents, IsZeroAbove}
+use Rattle.hall_law.specs.Table.{added, sign, of_letter, exponents, IsZeroAbove}
 use Rattle.hall_law.proofs.Premises.{Given}
-use Rattle.hall_law.proofs.OrderedWords.{ordered_from_in}
 use Rattle.hall_law.proofs.Counting.{count_none, entry_exponents, length-exponents}
-use Rattle.hall_law.proofs.Vectors.{Vec, same_vec, same_at, at_of, vector_of, lift, lift_is, zeros_at, zeros_entry, single_at, part_same, part_other, Writes, writes_both, writes_none, added_writes, length-added}
+use Rattle.hall_law.proofs.Vectors.{Vec, same_at, at_of, zeros_entry, Writes, writes_both, writes_none, added_writes, length-added}
 use Rattle.hall_law.proofs.Acting.{mul, origin, letter, act, letter_is, unit_right, unit_left, step, through, from_origin, act_writes, above_kept, ordered_writes, ordered_in, reaches}
 
 module _ {rels : Relations} {level : ℕ} {f : List ℤ → List ℤ → List ℤ}
