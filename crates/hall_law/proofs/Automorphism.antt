@@ -12,13 +12,13 @@ use Rattle.hall_law.proofs.Groups.{iterate, IsAutomorphism}
 use Rattle.hall_law.specs.Table.{exponents}
 use Rattle.hall_law.specs.Plan.{Factor, collected, image_of, first_way, second_way, DoAgree, phi, IsPlanned}
 use Rattle.hall_law.proofs.Premises.{above}
-use Rattle.hall_law.proofs.Counting.{length-exponents, entry_exponents}
+use Rattle.hall_law.proofs.Counting.{length-exponents, entry-exponents}
 use Rattle.hall_law.proofs.Groups.{inverse_is, of_unit}
-use Rattle.hall_law.proofs.Twisted.{run_joins}
-use Rattle.hall_law.proofs.Vectors.{IsAt, Vec, same_vec, same_at, zeros_entry, added_at, part, part_same, part_other, added_writes}
+use Rattle.hall_law.proofs.Twisted.{run-join}
+use Rattle.hall_law.proofs.Vectors.{IsAt, Vec, same_vec, same_at, entry-zeros, IsAt-added, part, part_same, part_other, added_writes}
 use Rattle.hall_law.proofs.Acting.{letter, from_origin, act_writes, above_kept}
 use Rattle.hall_law.proofs.TableGroup.{right_none, right_written, letter_in, respects}
-use Rattle.hall_law.proofs.Pushing.{turned, push_same, push_mapped, gathered_pushes}
+use Rattle.hall_law.proofs.Pushing.{turned, push_same, push-map, gathered_pushes}
 use Rattle.hall_law.proofs.Levels.{Lies}
 use Rattle.hall_law.proofs.Homomorphisms.{image, image_word, image_automorphism, before}
 use Rattle.hall_law.proofs.Summing.{one, join, turn, move, lifted, group, lifted_is, collected_is, pushed, assembled_is}
@@ -29,10 +29,10 @@ module _ {rels : Relations} {factors : ℕ → ℕ → List Factor} {i : ℕ} {f
   abbrev pub P : ℕ → Vec rels.count (suc i)
   P l = lifted ready (image_of rels i l)
 
-  entry_right : (l : ℕ) → i < l → l ≤ rels.count → (m : ℕ) → 1 ≤ m → m ≤ l
+  entry-right : (l : ℕ) → i < l → l ≤ rels.count → (m : ℕ) → 1 ≤ m → m ≤ l
       → entry (exponents rels.count (rels.right i l)) m ≡ pos 0
-  entry_right l a b m c d =
-      entry_exponents rels.count (rels.right i l) m c (omega arith)
+  entry-right l a b m c d =
+      entry-exponents rels.count (rels.right i l) m c (omega arith)
       ∙ right_none (above ready) i l ready.least a b m c d
 
   pub image_at : (l : ℕ) → i < l → l ≤ rels.count → IsAt rels.count (suc i) (image_of rels i l)
@@ -41,27 +41,28 @@ module _ {rels : Relations} {factors : ℕ → ℕ → List Factor} {i : ℕ} {f
       record {
         size = length-exponents rels.count (rels.right i l);
         clear = λ m c d.
-            entry_right l a b m c (omega arith);
+            entry-right l a b m c (omega arith);
       } in
-      added_at rels.count (suc i) (exponents rels.count (rels.right i l)) l (pos 1) x (omega arith)
+      IsAt-added rels.count (suc i) (exponents rels.count (rels.right i l)) l (pos 1) x
+      (omega arith)
       a
 
   pub P_is : (l : ℕ) → i < l → l ≤ rels.count → (P l).0 ≡ image_of rels i l
   P_is l a b = lifted_is ready (image_of rels i l) (image_at l a b)
 
-  P_entry : (l : ℕ) → i < l → l ≤ rels.count → (m : ℕ) → 1 ≤ m
+  entry-P : (l : ℕ) → i < l → l ≤ rels.count → (m : ℕ) → 1 ≤ m
       → entry (P l).0 m ≡ entry (exponents rels.count (rels.right i l)) m +ℤ part m l (pos 1)
-  P_entry l a b m c =
+  entry-P l a b m c =
       let w = added_writes (exponents rels.count (rels.right i l)) l (pos 1) (omega arith)
       (omega (arith, length-exponents rels.count (rels.right i l))) in
       ap (λ (x : List ℤ). entry x m) (P_is l a b) ∙ w.at m c
 
   pub P_first : (l : ℕ) → suc i ≤ l → l ≤ rels.count → Lies (above ready) l (pos 1) (P l)
   P_first l a b = record {
-    below = λ k c d. let p = P_entry l a b k c in let q = entry_right l a b k c (omega arith) in
+    below = λ k c d. let p = entry-P l a b k c in let q = entry-right l a b k c (omega arith) in
         omega (arith, ints, p, q, part_other k l (pos 1) (omega arith));
-    at = let p = P_entry l a b l (omega arith) in let q =
-        entry_right l a b l (omega arith) (omega arith) in
+    at = let p = entry-P l a b l (omega arith) in let q =
+        entry-right l a b l (omega arith) (omega arith) in
         omega (arith, ints, p, q, part_same l l (pos 1) refl);
   }
 
@@ -104,16 +105,16 @@ module _ {rels : Relations} {factors : ℕ → ℕ → List Factor} {i : ℕ} {f
       → P l ≡ acts (move ready) (up l ∷ rels.right i l) (one ready)
   P_moves l a b =
       let first = act_writes (above ready) (up l) (a, b) (one ready)
-      (λ m h. zeros_entry rels.count m) in
+      (λ m h. entry-zeros rels.count m) in
       let clear = above_kept (above ready) l (pos 1) (one ready).0 (move ready (up l) (one ready)).0
       first
-      (λ m h. zeros_entry rels.count m) in
+      (λ m h. entry-zeros rels.count m) in
       let written = right_written (above ready) i l ready.least a b a
       (move ready (up l) (one ready)) clear in
       same_at rels.count (suc i) (P l)
       (acts (move ready) (rels.right i l) (move ready (up l) (one ready)))
-      (λ m c d. let p = P_entry l a b m c in let q = written m c d in let r = first.at m c in
-      omega (arith, ints, p, q, r, zeros_entry rels.count m))
+      (λ m c d. let p = entry-P l a b m c in let q = written m c d in let r = first.at m c in
+      omega (arith, ints, p, q, r, entry-zeros rels.count m))
 
   pub P_word : (l : ℕ) → i < l → l ≤ rels.count
       → P l ≡ join ready (E l) (acts (move ready) (rels.right i l) (one ready))
@@ -181,7 +182,7 @@ module _ {rels : Relations} {factors : ℕ → ℕ → List Factor} {i : ℕ} {f
     pub runs_joined : (t : ℤ) (u v : Vec rels.count (suc i))
         → run t (join ready u v) ≡ join ready (run t u) (run t v)
     runs_joined t u v =
-        run_joins (join ready) (one ready) (turn ready) (group ready) forth back auto t u v
+        run-join (join ready) (one ready) (turn ready) (group ready) forth back auto t u v
 
     pub run_one : (t : ℤ) → run t (one ready) ≡ (one ready)
     run_one t = of_unit (join ready) (one ready) (turn ready) (group ready) (run t) (runs_joined t)
@@ -196,7 +197,7 @@ module _ {rels : Relations} {factors : ℕ → ℕ → List Factor} {i : ℕ} {f
         push_same (join ready) (one ready) (turn ready) (group ready) R (λ l. run t (E l)) low
         rels.count h w k (one ready)
         ∙ (ap (acts (pushed ready (λ l. run t (E l))) w) (sym (run_one t))
-        ∙ (sym (push_mapped (join ready) (one ready) (turn ready) (group ready) (run t)
+        ∙ (sym (push-map (join ready) (one ready) (turn ready) (group ready) (run t)
         (runs_joined t) E w (one ready))
         ∙ ap (run t) (sym (moves_pushed w
         (All-weaker (IsIn low rels.count) (IsIn (suc i) rels.count) (λ x p. (omega arith, p.1)) w

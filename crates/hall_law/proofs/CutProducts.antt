@@ -13,11 +13,11 @@ use Rattle.nil_word.specs.Exponents.{entry}
 use Rattle.hall_law.specs.Table.{zeros}
 use Rattle.hall_law.specs.Plan.{Factor, factors_from, IsPower, collected, assembled, IsPlanned}
 use Rattle.hall_law.specs.Shape.{AreStepped, cut, IsShaped}
-use Rattle.hall_law.proofs.Vectors.{at_of, vector_of, zeros_at, zeros_entry}
+use Rattle.hall_law.proofs.Vectors.{at_of, vector_of, IsAt-zeros, entry-zeros}
 use Rattle.hall_law.proofs.OrderedWords.{factors_from_in}
 use Rattle.hall_law.proofs.Grading.{graded, tail_power}
 use Rattle.hall_law.proofs.Stepping.{collected_in, in_level}
-use Rattle.hall_law.proofs.Cutting.{cut_below, cut_above, length-cut, Same, same_by, same_self, same_times}
+use Rattle.hall_law.proofs.Cutting.{entry-cut_below, entry-cut_above, length-cut, Same, same_by, same_self, same_times}
 
 -- the first entry of a power
 module _ (n j : ℕ) (f : List ℤ → List ℤ → List ℤ) (Q : List ℤ → ℤ → List ℤ)
@@ -31,7 +31,7 @@ module _ (n j : ℕ) (f : List ℤ → List ℤ → List ℤ) (Q : List ℤ → 
       ∙ (adds (Q z t) z (powers.within z t h) h ∙ ap (λ (s : ℤ). entry (Q z t) j +ℤ s) one))
 
   zero_first : entry (Q z (pos 0)) j ≡ pos 0
-  zero_first = ap (λ (x : List ℤ). entry x j) (powers.start z h) ∙ zeros_entry n j
+  zero_first = ap (λ (x : List ℤ). entry x j) (powers.start z h) ∙ entry-zeros n j
 
   power_first : (t : ℤ) → entry (Q z t) j ≡ t
   power_first (pos zero) = zero_first
@@ -151,7 +151,7 @@ module _ {rels : Relations} {factors : ℕ → ℕ → List Factor} {i : ℕ} {f
       (let h = ready.table.most in omega arith)) in
       collected_in rels (suc i) f Q ready.table ready.powers (λ j. A j t)
       (factors_from (suc i) (drop (suc i - 1) x)) good (zeros rels.count)
-      (vector_of rels.count (suc i) (zeros rels.count) some (zeros_at rels.count (suc i)))
+      (vector_of rels.count (suc i) (zeros rels.count) some (IsAt-zeros rels.count (suc i)))
 
   pub product_same : (t : ℤ) (k : ℕ) → i < k → k ≤ rels.count → (x : List ℤ) → length x ≡ rels.count
       → Same k (entry x k) (assembled rels.count (suc i) f Q (λ j. A j t) x)
@@ -159,7 +159,7 @@ module _ {rels : Relations} {factors : ℕ → ℕ → List Factor} {i : ℕ} {f
   product_same t k a b x size =
       let some : suc i ≤ suc rels.count = let h = ready.table.most in omega arith in
       let zero_in = vector_of rels.count (suc i) (zeros rels.count) some
-      (zeros_at rels.count (suc i)) in
+      (IsAt-zeros rels.count (suc i)) in
       let long : length (drop (suc i - 1) x) ≡ rels.count - i = length-drop (suc i - 1) x
       ∙ (let e : length x - (suc i - 1) ≡ rels.count - i = omega arith in e) in
       let long' : length (drop (suc i - 1) (cut rels.count k x)) ≡ rels.count - i =
@@ -169,10 +169,10 @@ module _ {rels : Relations} {factors : ℕ → ℕ → List Factor} {i : ℕ} {f
       let r = (folded t k a b (drop (suc i - 1) x) (drop (suc i - 1) (cut rels.count k x)) (suc i)
       (let h = ready.table.most in omega arith) (long' ∙ sym long) (omega arith)
       (λ l g. drop_entry (cut rels.count k x) l
-      ∙ (cut_below rels.count k x (suc i + l) (omega arith) (omega arith) g
+      ∙ (entry-cut_below rels.count k x (suc i + l) (omega arith) (omega arith) g
       ∙ sym (drop_entry x l)))
       (λ l g h. drop_entry (cut rels.count k x) l
-      ∙ cut_above rels.count k x (suc i + l) (omega arith)
+      ∙ entry-cut_above rels.count k x (suc i + l) (omega arith)
       (let m = ready.table.most in omega arith) g)
       (zeros rels.count) (zeros rels.count) zero_in zero_in (pos 0)
       (same_self k (zeros rels.count))).1 (omega arith) in

@@ -11,18 +11,19 @@ use Rattle.hall_law.specs.Table.{IsClosed}
 use Rattle.hall_law.specs.Shape.{cut, IsShaped}
 use Rattle.hall_law.proofs.Vectors.{IsAt, at_of}
 
-cut_entry : (n k : ℕ) (x : List ℤ) (m : ℕ) → 1 ≤ m → m ≤ n
+entry-cut : (n k : ℕ) (x : List ℤ) (m : ℕ) → 1 ≤ m → m ≤ n
     → entry (cut n k x) m ≡ cond (ltb m k) (entry x m) (pos 0)
-cut_entry n k x m low high =
+entry-cut n k x m low high =
     entry-map_numbers n (λ m. cond (ltb m k) (entry x m) (pos 0)) m low high
 
-pub cut_below : (n k : ℕ) (x : List ℤ) (m : ℕ) → 1 ≤ m → m ≤ n → m < k
+pub entry-cut_below : (n k : ℕ) (x : List ℤ) (m : ℕ) → 1 ≤ m → m ≤ n → m < k
     → entry (cut n k x) m ≡ entry x m
-cut_below n k x m low high l = cut_entry n k x m low high
+entry-cut_below n k x m low high l = entry-cut n k x m low high
     ∙ ap (λ (b : Bool). cond b (entry x m) (pos 0)) (lt-ltb m k l)
 
-pub cut_above : (n k : ℕ) (x : List ℤ) (m : ℕ) → 1 ≤ m → m ≤ n → k ≤ m → entry (cut n k x) m ≡ pos 0
-cut_above n k x m low high g = cut_entry n k x m low high
+pub entry-cut_above : (n k : ℕ) (x : List ℤ) (m : ℕ) → 1 ≤ m → m ≤ n → k ≤ m
+    → entry (cut n k x) m ≡ pos 0
+entry-cut_above n k x m low high g = entry-cut n k x m low high
     ∙ ap (λ (b : Bool). cond b (entry x m) (pos 0)) (le-ltb m k g)
 
 pub length-cut : (n k : ℕ) (x : List ℤ) → length (cut n k x) ≡ n
@@ -33,17 +34,18 @@ cut_same : (n k : ℕ) (x y : List ℤ) → ((m : ℕ) → 1 ≤ m → m < k →
 cut_same n k x y h =
     same_entries n (cut n k x) (cut n k y) (length-cut n k x) (length-cut n k y)
     (λ m low high. elim (cases_lt m k) [
-      | inl l ↦ cut_below n k x m low high l ∙ (h m low l ∙ sym (cut_below n k y m low high l))
-      | inr g ↦ cut_above n k x m low high g ∙ sym (cut_above n k y m low high g)
+      | inl l ↦ entry-cut_below n k x m low high l
+          ∙ (h m low l ∙ sym (entry-cut_below n k y m low high l))
+      | inr g ↦ entry-cut_above n k x m low high g ∙ sym (entry-cut_above n k y m low high g)
     ])
 
-pub cut_at : (n level k : ℕ) (x : List ℤ) → level ≤ suc n → IsAt n level x
+pub IsAt-cut : (n level k : ℕ) (x : List ℤ) → level ≤ suc n → IsAt n level x
     → IsAt n level (cut n k x)
-cut_at n level k x some h = record {
+IsAt-cut n level k x some h = record {
   size = length-cut n k x;
   clear = λ m low below. elim (cases_lt m k) [
-    | inl l ↦ cut_below n k x m low (omega arith) l ∙ h.clear m low below
-    | inr g ↦ cut_above n k x m low (omega arith) g
+    | inl l ↦ entry-cut_below n k x m low (omega arith) l ∙ h.clear m low below
+    | inr g ↦ entry-cut_above n k x m low (omega arith) g
   ];
 }
 

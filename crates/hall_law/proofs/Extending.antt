@@ -10,10 +10,10 @@ use Rattle.nil_word.specs.Congruence.{Relations}
 use Rattle.nil_word.specs.Exponents.{entry}
 use Rattle.hall_law.specs.Table.{zeros, single, IsClosed}
 use Rattle.hall_law.specs.Plan.{Factor, DoAgree, AreImages, put, summed, IsPlanned}
-use Rattle.hall_law.proofs.Pairs.{put_same, put_other, rest, whole, pair, same_pair, pair_whole, whole_pair, drop_put}
+use Rattle.hall_law.proofs.Pairs.{entry-put_same, entry-put_other, rest, whole, pair, same_pair, pair_whole, whole_pair, drop-put}
 use Rattle.hall_law.proofs.Running.{product_is_run}
 use Rattle.hall_law.proofs.Twisted.{twisted_assoc, twisted_unit_left, twisted_unit_right}
-use Rattle.hall_law.proofs.Vectors.{IsAt, Vec, same_vec, same_at, at_of, vector_of, zeros_at, zeros_entry, single_at, added_other, part_same, added_writes}
+use Rattle.hall_law.proofs.Vectors.{IsAt, Vec, same_vec, same_at, at_of, vector_of, IsAt-zeros, entry-zeros, IsAt-single, entry-added_other, part_same, added_writes}
 use Rattle.hall_law.proofs.Summing.{one, join, turn, group}
 use Rattle.hall_law.proofs.Automorphism.{forth, back, auto, run}
 
@@ -61,7 +61,7 @@ module _ {rels : Relations} {factors : ℕ → ℕ → List Factor} {i : ℕ} {f
   product_is x y =
       ap (λ (z : List ℤ). put (f z (put y.0 i (pos 0))) i (entry x.0 i +ℤ entry y.0 i))
       (product_is_run ready alike images (entry y.0 i) x.0 (tail x)
-      (drop_put x.0 i (pos 0) ready.least))
+      (drop-put x.0 i (pos 0) ready.least))
 
   pub product_assoc : (x y z : K) → product (product x y) z ≡ product x (product y z)
   product_assoc x y z =
@@ -80,7 +80,7 @@ module _ {rels : Relations} {factors : ℕ → ℕ → List Factor} {i : ℕ} {f
       (vector_of rels.count i (product u v).0 (omega arith) (product u v).1)
 
   pub zero_at : IsAt rels.count i (zeros rels.count)
-  zero_at = zeros_at rels.count i
+  zero_at = IsAt-zeros rels.count i
 
   abbrev pub nothing : K
   nothing = (zeros rels.count, zero_at)
@@ -88,14 +88,14 @@ module _ {rels : Relations} {factors : ℕ → ℕ → List Factor} {i : ℕ} {f
   split_nothing : split nothing ≡ (pos 0, one')
   split_nothing =
       same_pair rels.count i ready.least most (split nothing) (pos 0, one')
-      (zeros_entry rels.count i)
+      (entry-zeros rels.count i)
       (same_at rels.count (suc i) (tail nothing) one'
       (λ m a b. elim (eqb_tells m i) [
         | inl e ↦
             subst (λ (k : ℕ). entry (tail nothing).0 k ≡ entry (zeros rels.count) k) (sym e.1)
-            (put_same (zeros rels.count) i (pos 0) ready.least (omega (arith, zero_at.size))
-            ∙ sym (zeros_entry rels.count i))
-        | inr e ↦ put_other (zeros rels.count) i m (pos 0) ready.least a e.1
+            (entry-put_same (zeros rels.count) i (pos 0) ready.least (omega (arith, zero_at.size))
+            ∙ sym (entry-zeros rels.count i))
+        | inr e ↦ entry-put_other (zeros rels.count) i m (pos 0) ready.least a e.1
       ]))
 
   pub unit_left : (x : K) → product nothing x ≡ x
@@ -113,7 +113,7 @@ module _ {rels : Relations} {factors : ℕ → ℕ → List Factor} {i : ℕ} {f
       ∙ whole_pair rels.count i ready.least most x)
 
   abbrev pub alone : (k : ℕ) → ℤ → i ≤ k → Vec rels.count i
-  alone k e h = (single rels.count k e, single_at rels.count i k e (omega arith) h)
+  alone k e h = (single rels.count k e, IsAt-single rels.count i k e (omega arith) h)
 
   -- a vector with one entry, at i or above
   pub split_first : (e : ℤ) (low : i ≤ i)
@@ -124,7 +124,7 @@ module _ {rels : Relations} {factors : ℕ → ℕ → List Factor} {i : ℕ} {f
       same_pair rels.count i ready.least most
       (split (alone i e low)) (e, one')
       (let p = w.at i ready.least in
-      omega (arith, ints, p, zeros_entry rels.count i, part_same i i e refl))
+      omega (arith, ints, p, entry-zeros rels.count i, part_same i i e refl))
       (same_at rels.count (suc i) (tail (alone i e low))
       one'
       (λ m a b. elim (eqb_tells m i) [
@@ -132,10 +132,10 @@ module _ {rels : Relations} {factors : ℕ → ℕ → List Factor} {i : ℕ} {f
             subst (λ (k : ℕ). entry (tail (alone i e low)).0 k
             ≡ entry (zeros rels.count) k)
             (sym q.1)
-            (put_same (single rels.count i e) i (pos 0) ready.least
-            (omega (arith, (alone i e low).1.size)) ∙ sym (zeros_entry rels.count i))
-        | inr q ↦ put_other (single rels.count i e) i m (pos 0) ready.least a q.1
-            ∙ added_other (zeros rels.count) i m e ready.least a q.1
+            (entry-put_same (single rels.count i e) i (pos 0) ready.least
+            (omega (arith, (alone i e low).1.size)) ∙ sym (entry-zeros rels.count i))
+        | inr q ↦ entry-put_other (single rels.count i e) i m (pos 0) ready.least a q.1
+            ∙ entry-added_other (zeros rels.count) i m e ready.least a q.1
       ]))
 
   -- a vector that is 0 at i

@@ -13,8 +13,8 @@ use Rattle.hall_law.proofs.Groups.{IsAutomorphism}
 use Rattle.hall_law.specs.Table.{zeros, single}
 use Rattle.hall_law.proofs.Premises.{Given}
 use Rattle.hall_law.proofs.Groups.{cancel_left, solved, of_unit, of_inverse}
-use Rattle.hall_law.proofs.Vectors.{Vec, lift, lift_is, zeros_at, zeros_entry, single_at, part, part_same, part_other, added_writes}
-use Rattle.hall_law.proofs.Counting.{one_at_part}
+use Rattle.hall_law.proofs.Vectors.{Vec, lift, lift_is, IsAt-zeros, entry-zeros, IsAt-single, part, part_same, part_other, added_writes}
+use Rattle.hall_law.proofs.Counting.{one_at-part}
 use Rattle.hall_law.proofs.Acting.{some}
 use Rattle.hall_law.proofs.TableGroup.{stands, product_stands}
 use Rattle.hall_law.proofs.Pushing.{turned, push, push_from, push_alike}
@@ -34,7 +34,7 @@ module _ {rels : Relations} {level : ℕ} {f : List ℤ → List ℤ → List �
     kernel (suc d) m e low u b k =
         let kept = keeps m (entry u.0 m) u low (omega arith) (record { below = b; at = refl }) in
         let none : entry u.0 m ≡ pos 0 = sym kept.at
-        ∙ (ap (λ (z : Vec rels.count level). entry z.0 m) k ∙ zeros_entry rels.count m) in
+        ∙ (ap (λ (z : Vec rels.count level). entry z.0 m) k ∙ entry-zeros rels.count m) in
         kernel d (suc m) (omega arith) (omega arith) u
         (lies_next t m u (record { below = b; at = none })) k
 
@@ -69,13 +69,13 @@ module _ {rels : Relations} {level : ℕ} {f : List ℤ → List ℤ → List �
         let s = lift rels.count level (some t) (single rels.count m c) in
         let is : s.0 ≡ single rels.count m c =
         lift_is rels.count level (some t) (single rels.count m c)
-        (single_at rels.count level m c (omega arith) low) in
+        (IsAt-single rels.count level m c (omega arith) low) in
         let w = added_writes (zeros rels.count) m c (omega arith)
-        (omega (arith, (zeros_at rels.count level).size)) in
+        (omega (arith, (IsAt-zeros rels.count level).size)) in
         let entries : (k : ℕ) → 1 ≤ k → entry s.0 k ≡ part k m c = λ k g. let p = w.at k g in
         ap (λ (x : List ℤ). entry x k) is
         ∙ (let q : entry (single rels.count m c) k ≡ part k m c =
-        omega (arith, ints, p, zeros_entry rels.count k) in q) in
+        omega (arith, ints, p, entry-zeros rels.count k) in q) in
         let lies : Lies t m c s = record {
           below = λ k g l. entries k g ∙ part_other k m c (omega arith);
           at = entries m (omega arith) ∙ part_same m m c refl;
@@ -134,13 +134,13 @@ module _ {rels : Relations} {level : ℕ} {f : List ℤ → List ℤ → List �
             below = λ k g h. p.below k g (omega arith);
             at =
                 subst (λ (j : ℕ). entry (P l).0 j ≡ pos 1) (sym e) p.at
-                ∙ sym (one_at_part m l ∙ part_same m l (pos 1) e);
+                ∙ sym (one_at-part m l ∙ part_same m l (pos 1) e);
           }
           | inr g ↦ record {
             below = λ k g h. p.below k g (omega arith);
             at =
                 p.below m (omega arith) g
-                ∙ sym (one_at_part m l ∙ part_other m l (pos 1) (omega arith));
+                ∙ sym (one_at-part m l ∙ part_other m l (pos 1) (omega arith));
           }
         ]
 

@@ -10,9 +10,9 @@ use Rattle.hall_law.specs.Table.{zeros}
 use Rattle.hall_law.specs.Plan.{Factor, collected, assembled, DoAgree, phi, AreImages, IsPlanned}
 use Rattle.hall_law.proofs.Premises.{above}
 use Rattle.hall_law.proofs.Groups.{same_steps}
-use Rattle.hall_law.proofs.Twisted.{run_forth, run_next}
+use Rattle.hall_law.proofs.Twisted.{run-forth, run-next}
 use Rattle.hall_law.proofs.Vectors.{IsAt, Vec, same_vec, at_of}
-use Rattle.hall_law.proofs.Acting.{reaches, ordered_in}
+use Rattle.hall_law.proofs.Acting.{reaches, IsWordIn-ordered}
 use Rattle.hall_law.proofs.Pushing.{gathered_pushes}
 use Rattle.hall_law.proofs.Summing.{one, join, turn, move, lifted, lifted_is, group, collected_is, pushed, assembled_is}
 use Rattle.hall_law.proofs.Automorphism.{E, right_low, P_word, forth, back, auto, phi_is, run, runs_joined, run_word, forth_generator}
@@ -64,9 +64,9 @@ module _ {rels : Relations} {factors : ℕ → ℕ → List Factor} {i : ℕ} {f
       ∙ (ap (λ (x : List ℤ). f x (collected f Q (λ l. A l t) (factors i j) (zeros rels.count)))
       (sym (B_is j t a b)) ∙ ap (f (B t j).0) product))))
       (λ t.
-      run_next (join ready) (one ready) (turn ready) (group ready) (forth ready alike)
+      run-next (join ready) (one ready) (turn ready) (group ready) (forth ready alike)
       (back ready alike) (auto ready alike) t (E ready j)
-      ∙ (sym (run_forth (join ready) (one ready) (turn ready) (group ready) (forth ready alike)
+      ∙ (sym (run-forth (join ready) (one ready) (turn ready) (group ready) (forth ready alike)
       (back ready alike) (auto ready alike) t (E ready j))
       ∙ (ap (run ready alike t) (forth_generator ready alike j a b ∙ P_word ready j a b)
       ∙ runs_joined ready alike t (E ready j) (acts (move ready) (rels.right i j) (one ready)))))
@@ -86,7 +86,7 @@ module _ {rels : Relations} {factors : ℕ → ℕ → List Factor} {i : ℕ} {f
   image_next j t a b =
       let e : B (t +ℤ pos 1) j ≡ forth ready alike (B t j) =
       image_is_run j (t +ℤ pos 1) a b
-      ∙ (run_next (join ready) (one ready) (turn ready) (group ready) (forth ready alike)
+      ∙ (run-next (join ready) (one ready) (turn ready) (group ready) (forth ready alike)
       (back ready alike) (auto ready alike) t (E ready j)
       ∙ ap (forth ready alike) (sym (image_is_run j t a b))) in
       sym (B_is j (t +ℤ pos 1) a b)
@@ -101,5 +101,5 @@ module _ {rels : Relations} {factors : ℕ → ℕ → List Factor} {i : ℕ} {f
       assembled_is ready (λ j. A j t) (λ l a b. A_at l t a b) x y same
       ∙ ap (λ (u : Vec rels.count (suc i)). u.0)
       (run_word ready alike t (B t) (suc i) (omega arith) (λ l a b. image_is_run l t a b)
-      (ordered y.0) (ordered_in (above ready) y)
+      (ordered y.0) (IsWordIn-ordered (above ready) y)
       ∙ ap (run ready alike t) (reaches (above ready) y))

@@ -14,9 +14,9 @@ use Rattle.nil_word.proofs.Ordering.{ordered_exists}
 use Rattle.hall_law.proofs.Groups.{IsGroup}
 use Rattle.hall_law.specs.Table.{added, sign, of_letter, exponents, IsZeroAbove}
 use Rattle.hall_law.proofs.Premises.{Given}
-use Rattle.hall_law.proofs.Counting.{count_none, entry_exponents, length-exponents}
-use Rattle.hall_law.proofs.Vectors.{Vec, same_at, at_of, zeros_entry, Writes, writes_both, writes_none, added_writes, length-added}
-use Rattle.hall_law.proofs.Acting.{mul, origin, letter, act, letter_is, unit_right, unit_left, step, through, from_origin, act_writes, above_kept, ordered_writes, ordered_in, reaches}
+use Rattle.hall_law.proofs.Counting.{count_none, entry-exponents, length-exponents}
+use Rattle.hall_law.proofs.Vectors.{Vec, same_at, at_of, entry-zeros, Writes, writes_both, writes_none, added_writes, length-added}
+use Rattle.hall_law.proofs.Acting.{mul, origin, letter, act, letter_is, unit_right, unit_left, step, through, from_origin, act_writes, above_kept, ordered_writes, IsWordIn-ordered, reaches}
 
 module _ {rels : Relations} {level : ℕ} {f : List ℤ → List ℤ → List ℤ}
     (t : Given rels level f) where
@@ -43,7 +43,7 @@ module _ {rels : Relations} {level : ℕ} {f : List ℤ → List ℤ → List �
       (omega arith) (omega arith) (λ i s t. clear i (omega arith))
       (λ i s t. let e : suc i - 1 ≡ i = omega arith in
       subst (λ (q : ℕ). get_or (exponents rels.count (rels.right j l)) q (pos 0) ≡ pos 0) e
-      (entry_exponents rels.count (rels.right j l) (suc i) (omega arith) (omega arith)
+      (entry-exponents rels.count (rels.right j l) (suc i) (omega arith) (omega arith)
       ∙ right_none j l a b d (suc i) (omega arith) (omega arith))) m g h).1 g in
       subst (λ (y : List Letter).
       entry (acts (act t) y u).0 m ≡ entry u.0 m +ℤ entry (exponents rels.count (rels.right j l)) m)
@@ -55,10 +55,10 @@ module _ {rels : Relations} {level : ℕ} {f : List ℤ → List ℤ → List �
       ≡ mul t (letter t (up l)) (letter t (up j))
   relation_value j l a b d =
       let first = act_writes t (up j) (a, omega arith) (origin t)
-      (λ m h. zeros_entry rels.count m) in
+      (λ m h. entry-zeros rels.count m) in
       let clear1 : IsZeroAbove l (act t (up j) (origin t)).0 =
       λ m h. let p = above_kept t j (pos 1) (origin t).0 (act t (up j) (origin t)).0 first
-      (λ i g. zeros_entry rels.count i) m (omega arith) in p in
+      (λ i g. entry-zeros rels.count i) m (omega arith) in p in
       let second = act_writes t (up l) (omega arith, d) (act t (up j) (origin t)) clear1 in
       let clear2 = above_kept t l (pos 1) (act t (up j) (origin t)).0
       (act t (up l) (act t (up j) (origin t))).0
@@ -89,7 +89,7 @@ module _ {rels : Relations} {level : ℕ} {f : List ℤ → List ℤ → List �
       let p2 = second.at m g in
       let p3 = w1.at m g in
       let p4 = w2.at m g in
-      omega (arith, ints, written m g h, v, p1, p2, p3, p4, zeros_entry rels.count m))
+      omega (arith, ints, written m g h, v, p1, p2, p3, p4, entry-zeros rels.count m))
 
   pub letter_in : (s : Bool) (k : ℕ) → level ≤ k → k ≤ rels.count → let a : Letter =
       record { number = k; up = s } in IsWordIn level rels.count (a ∷ [])
@@ -108,9 +108,9 @@ module _ {rels : Relations} {level : ℕ} {f : List ℤ → List ℤ → List �
       → b.number ≡ a.number → sign a +ℤ sign b ≡ pos 0 → (u : Vec rels.count level)
       → acts (act t) (a ∷ b ∷ []) u ≡ u
   undone a b h k same opposite_sign u =
-      let first = act_writes t a h (origin t) (λ m g. zeros_entry rels.count m) in
+      let first = act_writes t a h (origin t) (λ m g. entry-zeros rels.count m) in
       let clear = above_kept t a.number (sign a) (origin t).0 (act t a (origin t)).0 first
-      (λ m g. zeros_entry rels.count m) in
+      (λ m g. entry-zeros rels.count m) in
       let second = act_writes t b k (act t a (origin t))
       (subst (λ (i : ℕ). IsZeroAbove i (act t a (origin t)).0) (sym same) clear) in
       let both = writes_both a.number (sign a) (sign b) (origin t).0 (act t a (origin t)).0
@@ -164,7 +164,7 @@ module _ {rels : Relations} {level : ℕ} {f : List ℤ → List ℤ → List �
 
   pub mul_acts : (u v : Vec rels.count level) → mul t u v ≡ acts (act t) (ordered v.0) u
   mul_acts u v = ap (mul t u) (sym (reaches t v))
-      ∙ sym (from_origin t (ordered v.0) (ordered_in t v) u)
+      ∙ sym (from_origin t (ordered v.0) (IsWordIn-ordered t v) u)
 
   pub product_acts : (u v : Vec rels.count level)
       → acts (act t) (ordered u.0 ++ ordered v.0) (origin t) ≡ mul t u v
@@ -179,8 +179,8 @@ module _ {rels : Relations} {level : ℕ} {f : List ℤ → List ℤ → List �
       Congruent rels level (ordered x.0) (ordered u.0 ++ ordered v.0))
       (product_acts u v)
       (stands (ordered u.0 ++ ordered v.0)
-      (All-append (IsIn level rels.count) (ordered u.0) (ordered v.0) (ordered_in t u)
-      (ordered_in t v)))
+      (All-append (IsIn level rels.count) (ordered u.0) (ordered v.0) (IsWordIn-ordered t u)
+      (IsWordIn-ordered t v)))
 
   abbrev pub inv : Vec rels.count level → Vec rels.count level
   inv u = acts (act t) (inverse (ordered u.0)) (origin t)
@@ -188,17 +188,17 @@ module _ {rels : Relations} {level : ℕ} {f : List ℤ → List ℤ → List �
   pub group : IsGroup (mul t) (origin t) inv
   group = record {
     assoc = λ a b c. mul_acts (mul t a b) c
-        ∙ (through t (ordered c.0) (ordered_in t c) a b ∙ ap (mul t a) (sym (mul_acts b c)));
+        ∙ (through t (ordered c.0) (IsWordIn-ordered t c) a b ∙ ap (mul t a) (sym (mul_acts b c)));
     unit_left = unit_left t;
     unit_right = unit_right t;
     inverse_left = λ a.
         mul_acts (inv a) a
         ∙ (sym (acts-append (act t) (inverse (ordered a.0)) (ordered a.0) (origin t))
-        ∙ words_alike (cancels_before rels level (ordered a.0) (ordered_in t a)) (origin t));
+        ∙ words_alike (cancels_before rels level (ordered a.0) (IsWordIn-ordered t a)) (origin t));
     inverse_right = λ a.
         sym (from_origin t (inverse (ordered a.0))
-        (IsWordIn-inverse level rels.count (ordered a.0) (ordered_in t a)) a)
+        (IsWordIn-inverse level rels.count (ordered a.0) (IsWordIn-ordered t a)) a)
         ∙ (ap (acts (act t) (inverse (ordered a.0))) (sym (reaches t a))
         ∙ (sym (acts-append (act t) (ordered a.0) (inverse (ordered a.0)) (origin t))
-        ∙ words_alike (cancels_after rels level (ordered a.0) (ordered_in t a)) (origin t)));
+        ∙ words_alike (cancels_after rels level (ordered a.0) (IsWordIn-ordered t a)) (origin t)));
   }
