@@ -1,10 +1,10 @@
 -- Small instances over the Heisenberg group and the free nilpotent group of class 3.
-use Rattle.std.proofs.Common.{◌≡◌, ℕ, pos, List, [], ◌∷◌, ◌&&◌, ◌==◌, if◌then◌else◌, refl, arith, lit≤, lit<, Bool, true, false, All, subst, sym}
+use Rattle.std.proofs.Common.{◌≡◌, ℕ, pos, [], ◌∷◌, ◌&&◌, ◌==◌, if◌then◌else◌, refl, arith, lit≤, lit<, Bool, true, false, All, subst, sym}
 use Rattle.std.proofs.lemmas.Bool.Decides.{nat_tests}
 use Rattle.std.proofs.lemmas.List.Elements.{All-nil, All-cons}
 use Rattle.nil_word.specs.declared.letter.Letter.{Letter}
 use Rattle.nil_word.specs.Words.{up}
-use Rattle.nil_word.specs.Congruence.{Relations, moves, Congruent, StandsFor}
+use Rattle.nil_word.specs.Congruence.{moves, Congruent, StandsFor}
 use Rattle.nil_word.specs.Central.{IsCentralBy}
 use Rattle.nil_word.specs.Examples.{heisenberg, free_three}
 use Rattle.nil_word.proofs.Congruences.{trans, back, before, after, within, related}
