@@ -1,0 +1,45 @@
+//! Integers.
+
+ghost use Rattle.std.specs.Prelude.{◌≡◌, ◌-◌, ◌^◌, nat_le, cond, Some, None};
+ghost use Rattle.line_tokens.specs.Tokens.{number_from, fitting, integer};
+
+use super::kind::Kind;
+
+/// The greatest magnitude, 2^127 - 1.
+const MAX: u128 = 0x7fff_ffff_ffff_ffff_ffff_ffff_ffff_ffff;
+
+/// The number of digits, where it is at most 2^127 - 1.
+fn magnitude(digits: &[u8]) -> Option<u128>
+    ensures { result ≡ cond (nat_le (number_from 0 digits.now) (2 ^ 127 - 1)) (Some (number_from 0 digits.now)) None }
+{
+    let mut n = 0u128;
+    for byte in digits {
+        let digit = byte.saturating_sub(b'0') as u128;
+        if n > (MAX - digit) / 10 {
+            return None;
+        }
+        n = n * 10 + digit;
+    }
+    Some(n)
+}
+
+/// The value of an integer, where its magnitude is at most 2^127 - 1.
+fn value_of(negative: bool, digits: &[u8]) -> Option<i128>
+    ensures { result ≡ fitting negative (number_from 0 digits.now) }
+{
+    match magnitude(digits) {
+        None => None,
+        Some(n) => {
+            let n = n as i128;
+            if negative { Some(-n) } else { Some(n) }
+        }
+    }
+}
+
+/// The integer of digits, with a `-` before them or without.
+pub(super) fn integer_kind(negative: bool, digits: &[u8]) -> Kind
+    ensures { result ≡ integer negative digits.now }
+{
+    let is_one = !negative && digits == b"1".as_slice();
+    Kind::Integer(is_one, value_of(negative, digits))
+}
