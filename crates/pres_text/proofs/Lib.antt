@@ -3,3 +3,5 @@ pub mod Spelled
 pub mod Faults
 pub mod Grammar
 pub mod Known
+pub mod Agreement
+pub mod Drafts
