@@ -1,0 +1,49 @@
+//! A reader of std as a source.
+
+ghost use Rattle.std.specs.Prelude.{ℕ, List};
+ghost use Rattle.std.specs.declared.option.Option.{Option};
+
+use super::failed::Failed;
+use super::source::Source;
+use std::io::Read;
+
+/// A reader of std as a source, such as standard input. It tells what the reader tells, and of
+/// standard input that is nothing.
+#[derive(Drop)]
+pub struct InputSource<R> {
+    reader: R,
+    faults: u64,
+    given: u64,
+}
+
+impl<R: Read> Source for InputSource<R> {
+    ghost left = { λ s. R.remaining s.reader };
+
+    ghost faults = { λ s. s.faults };
+
+    ghost given = { λ s. s.given };
+
+    fn read(&mut self, buf: &mut [u8]) -> Result<usize, Failed> {
+        match self.reader.read(buf) {
+            Ok(count) => {
+                self.given = self.given.saturating_add(count as u64);
+                Ok(count)
+            }
+            Err(_) => {
+                self.faults = self.faults.saturating_add(1);
+                Err(Failed)
+            }
+        }
+    }
+}
+
+impl<R: Read> InputSource<R> {
+    /// A source over a reader.
+    pub fn new(reader: R) -> InputSource<R> {
+        InputSource {
+            reader,
+            faults: 0,
+            given: 0,
+        }
+    }
+}
