@@ -1,0 +1,4 @@
+pub mod Raising
+pub mod Order
+pub mod Ascending
+pub mod Differences

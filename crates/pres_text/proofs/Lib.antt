@@ -1,0 +1,5 @@
+pub mod Pieces
+pub mod Spelled
+pub mod Faults
+pub mod Grammar
+pub mod Known
