@@ -47,7 +47,7 @@ joined_words es = joined (map unrolled es)
 
 -- a magnitude within 2 ^ 127 - 1
 abbrev pub is_within : ℤ → Bool
-is_within (pos n) = true
+is_within (pos n) = nat_le n (2 ^ 127 - 1)
 is_within (negsuc n) = nat_le n (2 ^ 127 - 2)
 
 abbrev pub is_shaped_level : ℕ → Expr-F Bool → Bool

@@ -1,0 +1,100 @@
+-- The text of a query: its tokens, with brackets only where the grammar needs them, and their bytes.
+--   Written           what an expression is, as far as brackets around it go, and its tokens
+--   as_item, as_base, as_conjugator   inside a product, before a `^`, and behind one
+--   written e, written_query q        the tokens of an expression, and of a query
+--   kind_text, text_of, query_text    the bytes of a token, of tokens, and of a query
+use Rattle.std.specs.Prelude.{ℕ, ◌-◌, ℤ, pos, true, List, [], ◌∷◌, ◌++◌, map, slice_index_or, Some, None, codes}
+use Rattle.std.specs.List.{flat_map}
+use Rattle.std.specs.Ordering.{int_eq}
+use Rattle.std.specs.Fmt.{signed_decimal}
+use Rattle.nil_word.specs.declared.expr.Expr.{Expr, fold-Expr}
+use Rattle.nil_word.specs.declared.expr.Expr.TheOpen.{Expr-F, One, Gen, Product, Pow, Conj, Comm}
+use Rattle.nil_word.specs.declared.query.Query.{Query}
+use Rattle.nil_word.specs.declared.query.Query.TheVariants as query
+use Rattle.line_tokens.specs.declared.kind.Kind.{Kind}
+use Rattle.line_tokens.specs.declared.kind.Kind.TheVariants as k
+use Rattle.word_text.specs.declared.shape.Shape.{Shape}
+use Rattle.word_text.specs.declared.shape.Shape.TheVariants as shape
+
+pub record Written : Type 0 where
+  pub shape : Shape
+  pub tokens : List Kind
+
+abbrev pub bracketed : List Kind → List Kind
+bracketed ks = k.Open ∷ ks ++ k.Close ∷ []
+
+-- a product inside a product stands in brackets
+abbrev pub as_item : Shape → List Kind → List Kind
+as_item shape.Many ks = bracketed ks
+as_item _ ks = ks
+
+-- before a `^` so does a power and a conjugate
+abbrev pub as_base : Shape → List Kind → List Kind
+as_base shape.Many ks = bracketed ks
+as_base shape.Raised ks = bracketed ks
+as_base _ ks = ks
+
+-- behind a `^` so does `1` too, which would be an exponent
+abbrev pub as_conjugator : Shape → List Kind → List Kind
+as_conjugator shape.Atom ks = ks
+as_conjugator _ ks = bracketed ks
+
+abbrev pub joined_by_star : List (List Kind) → List Kind
+joined_by_star [] = []
+joined_by_star (ks ∷ []) = ks
+joined_by_star (ks ∷ rest) = ks ++ k.Star ∷ joined_by_star rest
+
+abbrev pub item_tokens : Written → List Kind
+item_tokens w = as_item w.shape w.tokens
+
+-- one level, by its parts
+abbrev pub written_level : Expr-F Written → Written
+written_level One = record { shape = shape.One; tokens = k.Integer true (Some (pos 1)) ∷ [] }
+written_level (Gen g) = record { shape = shape.Atom; tokens = k.Name g ∷ [] }
+written_level (Product ws) = record { shape = shape.Many; tokens = joined_by_star (map item_tokens ws) }
+written_level (Pow w e) = record {
+  shape = shape.Raised;
+  tokens = as_base w.shape w.tokens ++ k.Caret ∷ k.Integer (int_eq e (pos 1)) (Some e) ∷ [];
+}
+written_level (Conj u v) = record {
+  shape = shape.Raised;
+  tokens = as_base u.shape u.tokens ++ k.Caret ∷ as_conjugator v.shape v.tokens;
+}
+written_level (Comm u v) = record {
+  shape = shape.Atom;
+  tokens = k.SquareOpen ∷ (u.tokens ++ k.Comma ∷ (v.tokens ++ k.SquareClose ∷ []));
+}
+
+abbrev pub written : Expr → Written
+written e = fold-Expr Written written_level e
+
+abbrev pub written_query : Query → List Kind
+written_query (query.Value e) = (written e).tokens
+written_query (query.Same u v) = (written u).tokens ++ k.Equal ∷ (written v).tokens
+written_query (query.Solve u v) = k.Solve ∷ ((written u).tokens ++ k.Bar ∷ (written v).tokens)
+written_query (query.Quotient u v) = k.Quotient ∷ ((written u).tokens ++ k.Bar ∷ (written v).tokens)
+written_query query.Blank = []
+
+-- the text of a token; none where no written token is so
+abbrev pub kind_text : List (List ℕ) → Kind → List ℕ
+kind_text names (k.Name g) = slice_index_or names (g - 1) []
+kind_text names (k.Integer one (Some n)) = signed_decimal n
+kind_text names (k.Integer one None) = []
+kind_text names k.Star = codes "*"
+kind_text names k.Caret = codes "^"
+kind_text names k.Open = codes "("
+kind_text names k.Close = codes ")"
+kind_text names k.SquareOpen = codes "["
+kind_text names k.SquareClose = codes "]"
+kind_text names k.Comma = codes ","
+kind_text names k.Equal = codes " = "
+kind_text names k.Bar = codes " | "
+kind_text names k.Solve = codes "solve "
+kind_text names k.Quotient = codes "quotient "
+kind_text names k.Other = []
+
+abbrev pub text_of : List (List ℕ) → List Kind → List ℕ
+text_of names ks = flat_map (kind_text names) ks
+
+abbrev pub query_text : List (List ℕ) → Query → List ℕ
+query_text names q = text_of names (written_query q)
