@@ -1,6 +1,8 @@
 //! Polynomials put into polynomials, sums over one variable, and renamed variables.
 #![tactic(auto)]
 
+mod renaming;
 mod stepping;
 
+pub use renaming::{set_zero, x_to_y};
 pub use stepping::step_sum;
