@@ -4,3 +4,4 @@ pub mod Ascending
 pub mod Differences
 pub mod Moving
 pub mod Vanishing
+pub mod Exactness
