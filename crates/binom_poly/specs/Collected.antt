@@ -1,9 +1,12 @@
 -- The polynomial that a list of contributions makes.
 --   collected cs     at each monomial the sum of its contributions, in order, and without coefficients 0
 --   sum_of p q  scaled p c  product_of p q  quotient_of p m       the polynomials that the operations make
+--   constant_terms c  var_terms v                                 the polynomials c and v
+--   AllDivisible m p                                              m divides each coefficient
 --   SumPasses  ScalePasses  ProductPasses                         the operation gives up
 use Rattle.std.specs.Prelude.{ℕ, List, [], ◌∷◌, ◌++◌, cond, ℤ, pos, ◌+ℤ◌, int_div}
 use Rattle.std.specs.Ordering.{int_eq, match_ordering}
+use Rattle.whole.proofs.Laws.{Divides}
 use Rattle.binom_poly.specs.declared.part.Part.{Part}
 use Rattle.binom_poly.specs.declared.term.Term.{Term}
 use Rattle.binom_poly.specs.Monomial.{monomial_cmp}
@@ -53,3 +56,13 @@ ProductPasses p q = Passes (product_terms p q)
 unfoldable pub quotient_of : List Term → ℕ → List Term
 quotient_of [] m = []
 quotient_of (t ∷ ts) m = record { monomial = t.monomial; coefficient = int_div t.coefficient (pos m) } ∷ quotient_of ts m
+
+abbrev pub AllDivisible : ℕ → List Term → Type 0
+AllDivisible m [] = Unit {0}
+AllDivisible m (t ∷ ts) = Divides (pos m) t.coefficient × AllDivisible m ts
+
+abbrev pub constant_terms : ℤ → List Term
+constant_terms c = with_term [] c []
+
+abbrev pub var_terms : ℕ → List Term
+var_terms v = record { monomial = record { var = v; exp = 1 } ∷ []; coefficient = pos 1 } ∷ []

@@ -1,15 +1,16 @@
 //! Operations on polynomials.
 
-ghost use Rattle.std.specs.Prelude.{◌≡◌, ◌≤◌, ◌<◌, ◌^◌, ◌+ℤ◌, ◌*ℤ◌, ℕ, ℤ, List, [], OnOk, IfOk, IfErr, IsErrOf};
+ghost use Rattle.std.specs.Prelude.{◌≡◌, ◌≤◌, ◌<◌, ◌^◌, ◌+ℤ◌, ◌*ℤ◌, ℕ, ℤ, List, [], pos, unsigned_abs, OnOk, IfOk, IfErr, IsErrOf};
 ghost use Rattle.binom_poly.specs.Polynomial.{IsPolynomial, value_of};
 ghost use Rattle.binom_poly.specs.Sums.{Gains};
-ghost use Rattle.binom_poly.specs.Collected.{collected, product_of, sum_of, ProductPasses, SumPasses};
+ghost use Rattle.binom_poly.specs.Collected.{collected, product_of, quotient_of, scaled, sum_of, AllDivisible, ProductPasses, ScalePasses, SumPasses};
 ghost use Rattle.binom_poly.specs.declared.term.Term.{Term};
 
-use crate::fault::PolyFault;
-use crate::poly::Poly;
-use crate::product::Product;
+use crate::fault::{Memory, PolyFault};
+use crate::poly::{Poly, zero};
+use crate::product::{Product, times};
 use crate::sums::Sums;
+use crate::term::Term;
 use std::alloc::Global;
 
 // As many parts as a monomial can have.
@@ -65,4 +66,51 @@ pub fn mul(alloc: Global, p: &Poly, q: &Poly) -> Result<Poly, PolyFault>
     }
     let Product { sums, prefix: _ } = product;
     collect(alloc, sums)
+}
+
+/// A multiple of a polynomial. The number isn't `i128::MIN`.
+pub fn scale(alloc: Global, p: &Poly, c: i128) -> Result<Poly, PolyFault>
+    requires { unsigned_abs c < 2 ^ 127 }
+    ensures multiple { IfOk result (λ multiple. multiple ≡ scaled p.now c) }
+    ensures value { IfOk result (λ multiple. (a : ℕ → ℤ) → value_of a multiple ≡ c *ℤ value_of a p.now) }
+    ensures fits { OnOk result (¬ (ScalePasses p.now c)) }
+    ensures wide { IfErr result (λ fault. fault ≡ PolyFault.Wide → ScalePasses p.now c) }
+{
+    if c == 0 {
+        return Ok(zero(alloc));
+    }
+    let terms = p.terms();
+    let Ok(mut multiples) = Vec::with_capacity(alloc, terms.len()) else {
+        return Err(PolyFault::Memory);
+    };
+    for term in terms {
+        let Some(coefficient) = times(c, term.coefficient) else {
+            return Err(PolyFault::Wide);
+        };
+        let Ok(monomial) = term.monomial.copy(alloc) else {
+            return Err(PolyFault::Memory);
+        };
+        match multiples.push(Term { monomial, coefficient }) {
+            Ok(()) => {}
+            Err(_) => return Err(PolyFault::Memory),
+        }
+    }
+    Ok(Poly::of(multiples))
+}
+
+/// Each coefficient divided by a number that divides all of them.
+pub fn divide_exact(alloc: Global, p: &Poly, m: u32) -> Result<Poly, Memory>
+    requires positive { 1 ≤ m }
+    requires divisible { AllDivisible m p.now }
+    ensures quotient { IfOk result (λ quotient. quotient ≡ quotient_of p.now m) }
+    ensures value { IfOk result (λ quotient. (a : ℕ → ℤ) → value_of a quotient *ℤ pos m ≡ value_of a p.now) }
+{
+    let terms = p.terms();
+    let mut quotients = Vec::with_capacity(alloc, terms.len())?;
+    for term in terms {
+        let monomial = term.monomial.copy(alloc)?;
+        let coefficient = term.coefficient / m as i128;
+        quotients.push(Term { monomial, coefficient })?;
+    }
+    Ok(Poly::of(quotients))
 }
