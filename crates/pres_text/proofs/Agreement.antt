@@ -1,5 +1,5 @@
 -- The faults of a draft are those of the lines.
-use Rattle.std.proofs.Common.{◌≡◌, ℕ, zero, suc, ◌+◌, ◌-◌, ◌^◌, ◌<◌, ◌≤◌, ◌==◌, ◌&&◌, ◌||◌, not, nat_le, Bool, true, false, if◌then◌else◌, ℤ, pos, negsuc, unsigned_abs, List, [], ◌∷◌, length, map, Option, Some, None, option_map, unwrap_or, is_some, refl, sym, ◌∙◌, ap, arith}
+use Rattle.std.proofs.Common.{◌≡◌, ℕ, ◌+◌, ◌-◌, ◌^◌, ◌==◌, ◌||◌, not, nat_le, Bool, true, false, if◌then◌else◌, ℤ, pos, negsuc, unsigned_abs, List, [], ◌∷◌, Option, Some, None, option_map, is_some, refl, ap, arith}
 use Rattle.std.specs.List.{list_any}
 use Rattle.std.proofs.lemmas.Bool.Decides.{nat_tests}
 use Rattle.nil_pres.specs.declared.syllable.Syllable.{Syllable}
@@ -10,9 +10,9 @@ use Rattle.nil_pres.specs.Presented as nil
 use Rattle.pres_text.specs.declared.file_kind.FileKind.{FileKind}
 use Rattle.pres_text.specs.declared.file_kind.FileKind.TheVariants as kind
 use Rattle.pres_text.specs.declared.pres_fault.PresFault.{PresFault}
-use Rattle.pres_text.specs.declared.pres_fault.PresFault.TheVariants.{File, Memory}
+use Rattle.pres_text.specs.declared.pres_fault.PresFault.TheVariants.{File}
 use Rattle.pres_text.specs.Relation.{Power, Spelled}
-use Rattle.pres_text.specs.Spelling.{Clipped, clipped, syllable_of, syllables_of, spelled_clipped}
+use Rattle.pres_text.specs.Spelling.{clipped, syllables_of, spelled_clipped}
 use Rattle.pres_text.specs.FirstFault.{broken, is_exponent, is_zero, right_fault, has_unknown, is_given, relation_fault, spelled_fault}
 use Rattle.pres_text.specs.Reading.{relation_fault_at, has_unknown_number, clipped_fault, found_fault}
 

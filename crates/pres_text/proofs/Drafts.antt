@@ -1,6 +1,5 @@
 -- The drafts of names and of relations that were given, the latest first.
-use Rattle.std.proofs.Common.{◌≡◌, ◌≢◌, ℕ, zero, suc, ◌+◌, ◌-◌, ◌<◌, ◌≤◌, ◌==◌, ◌&&◌, ◌||◌, cond, Bool, true, false, if◌then◌else◌, List, [], ◌∷◌, ◌++◌, length, set, get_or, replicate, Option, Some, None, is_some, refl, sym, ◌∙◌, ap, subst, arith, append_assoc, length-append, length-set, get_or-set_other, get_or-set_same}
-use Rattle.std.specs.List.{list_any}
+use Rattle.std.proofs.Common.{◌≡◌, ◌≢◌, ℕ, zero, suc, ◌+◌, ◌-◌, ◌<◌, ◌≤◌, ◌==◌, ◌&&◌, ◌||◌, Bool, true, false, if◌then◌else◌, List, [], ◌∷◌, ◌++◌, length, set, get_or, replicate, Option, Some, None, is_some, refl, sym, ◌∙◌, ap, arith, append_assoc, length-append, length-set, get_or-set_other, get_or-set_same}
 use Rattle.std.proofs.lemmas.Grind.{common_steps}
 use Rattle.std.proofs.lemmas.Bool.Decides.{nat_tests}
 use Rattle.std.proofs.lemmas.Bool.{eqb-true}
@@ -23,7 +22,7 @@ IsShaped-with_relation d j i right h =
     let m : length (set (get_or d.rights (j - 1) []) (i - 1) (Some right)) ≡ length (get_or d.rights (j - 1) []) = length-set (get_or d.rights (j - 1) []) (i - 1) (Some right) in
     record {
       rows = n ∙ h.rows;
-      widths = λ k l. grind (arith, common_steps, n, m, h.widths k, h.widths (j - 1), h.rows, get_or-set_same d.rights (j - 1) (set (get_or d.rights (j - 1) []) (i - 1) (Some right)) [], get_or-set_other d.rights (j - 1) k (set (get_or d.rights (j - 1) []) (i - 1) (Some right)) [])
+      widths = λ k l. grind (arith, common_steps, n, m, h.widths k, h.widths (j - 1), h.rows, get_or-set_same d.rights (j - 1) (set (get_or d.rights (j - 1) []) (i - 1) (Some right)) [], get_or-set_other d.rights (j - 1) k (set (get_or d.rights (j - 1) []) (i - 1) (Some right)) []);
     }
 
 row_end : (rows : List (List (Option (List Syllable)))) (row : List (Option (List Syllable))) (k : ℕ) → k < length rows + 1
@@ -49,7 +48,7 @@ IsShaped-with_name d w h =
           ap length (row_end d.rights row k few)
           ∙ width_by (k == length d.rights) k row (get_or d.rights k [])
           (λ e. let same : k ≡ length d.rights = eqb-true k (length d.rights) e in omega (arith, h.rows))
-          (λ e. h.widths k (below_other k (length d.rights) e few))
+          (λ e. h.widths k (below_other k (length d.rights) e few));
     }
 
 pub IsShaped-named : (d : Draft) (ws : List (List ℕ)) → IsShaped d → IsShaped (named d ws)

@@ -1,5 +1,5 @@
 -- Faults in sequence.
-use Rattle.std.proofs.Common.{◌≡◌, ℕ, Bool, true, false, not, nat_le, List, length, Option, Some, None, option_map, IfSome, IfNone, IfErr, if◌then◌else◌, Result, Ok, Err, refl, sym, ◌∙◌, ap, subst}
+use Rattle.std.proofs.Common.{◌≡◌, ℕ, Bool, true, false, not, nat_le, List, length, Option, Some, None, option_map, IfSome, IfNone, IfErr, if◌then◌else◌, Result, Ok, Err, refl, sym, ◌∙◌, ap, subst, ◌⊎◌, inl, inr}
 use Rattle.std.specs.List.{list_any}
 use Rattle.std.specs.Str.{bytes_eq}
 use Rattle.nil_pres.specs.declared.name_fault.NameFault.{NameFault}
@@ -65,3 +65,33 @@ pub line_failed_fine : (o later : Option PresFault) (e : PresFault) → IfNone o
 line_failed_fine (Some f) later e m = tt
 line_failed_fine None None e m = m
 line_failed_fine None (Some f) e m = tt
+
+-- outcomes of the whole reader
+pub memory_gives : {A : Type 0} (f : PresFault) (o : Result A PresFault) → f ≡ Memory → Gives (Err f) o
+memory_gives f o h = subst (λ (x : PresFault). Gives (Err x) o) (sym h) tt
+
+pub only_memory : (found first : Option PresFault) (f : PresFault) → found ≡ first → IfNone found (f ≡ Memory) → first ≡ None → f ≡ Memory
+only_memory None first f e h n = h
+only_memory (Some g) first f e h n = let no : ⊥ = cc in absurd no
+
+fault_named : (f g : PresFault) → Gives (failed f) (failed g) → (f ≡ Memory) ⊎ (f ≡ g)
+fault_named Memory g h = inl refl
+fault_named (File n k) g h = inr cc
+
+pub memory_or_first : (found first : Option PresFault) (f : PresFault) → found ≡ first → IfNone found (f ≡ Memory) → IfSome found (λ g. Gives (failed f) (failed g))
+    → (f ≡ Memory) ⊎ (first ≡ Some f)
+memory_or_first None first f e h n = inl h
+memory_or_first (Some g) first f e h n = elim (fault_named f g n) as (λ _. (f ≡ Memory) ⊎ (first ≡ Some f)) [ inl m ↦ inl m | inr same ↦ inr (sym e ∙ ap Some (sym same)) ]
+
+abbrev pub failed_in : (A : Type 0) → PresFault → Result A PresFault
+failed_in A f = Err f
+
+-- an error is one of whatever type
+pub gives_in : (A B : Type 0) (found : Option PresFault) (f : PresFault) → IfSome found (λ g. Gives (failed_in A f) (failed_in A g)) → IfSome found (λ g. Gives (failed_in B f) (failed_in B g))
+gives_in A B None f h = tt
+gives_in A B (Some g) Memory h = tt
+gives_in A B (Some g) (File n k) h = let same : File n k ≡ g = cc in ap (failed_in B) same
+
+pub none_failed : {A : Type 0} (found : Option PresFault) (x : A) → IfSome found (λ f. Gives (Ok x) (Err f)) → found ≡ None
+none_failed None x h = refl
+none_failed (Some f) x h = cc

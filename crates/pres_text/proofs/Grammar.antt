@@ -1,8 +1,8 @@
 -- What tokens spell by the grammar is what is read from them.
-use Rattle.std.proofs.Common.{◌≡◌, ℕ, Bool, true, false, ℤ, pos, List, [], ◌∷◌, Option, Some, None, option_map, refl, sym, ◌∙◌, ap, subst}
+use Rattle.std.proofs.Common.{◌≡◌, ℕ, true, ℤ, pos, List, [], ◌∷◌, Option, Some, None, option_map, refl, ◌∙◌, ap, subst}
 use Rattle.line_tokens.specs.declared.kind.Kind.{Kind}
-use Rattle.line_tokens.specs.declared.kind.Kind.TheVariants.{Name, Integer, Star, Caret, Open, Close, SquareOpen, SquareClose, Comma, Equal, Bar, Solve, Quotient, Other}
-use Rattle.pres_text.specs.Relation.{Power, Spelled, IsPower, plain, raised, ArePowers, last, times, IsRightSide, empty, powers, IsSpelled, relation, before, powers_by, right_by, spelled_by}
+use Rattle.line_tokens.specs.declared.kind.Kind.TheVariants.{Name, Integer, Star, Caret, SquareOpen, SquareClose, Comma, Equal}
+use Rattle.pres_text.specs.Relation.{Power, Spelled, plain, raised, ArePowers, last, times, IsRightSide, empty, powers, IsSpelled, relation, before, powers_by, right_by, spelled_by}
 
 abbrev power : ℕ → Option ℤ → Power
 power g n = record { number = g; exponent = n }

@@ -1,5 +1,5 @@
 -- The generators of a line are those that have names.
-use Rattle.std.proofs.Common.{◌≡◌, ℕ, zero, suc, ◌+◌, ◌<◌, ◌≤◌, ◌==◌, ◌&&◌, nat_le, nat_lt, Bool, true, false, cond, List, [], ◌∷◌, length, map, position, Option, Some, None, option_map, unwrap_or, refl, sym, subst, arith}
+use Rattle.std.proofs.Common.{◌≡◌, ℕ, zero, suc, ◌+◌, ◌<◌, ◌≤◌, ◌==◌, ◌&&◌, nat_le, nat_lt, Bool, true, false, cond, List, [], ◌∷◌, length, map, Option, Some, None, option_map, unwrap_or, refl, sym, subst, arith}
 use Rattle.std.specs.List.{prefix_len, take_while, position_or_len}
 use Rattle.std.specs.Str.{bytes_eq}
 use Rattle.std.proofs.lemmas.Bool.Decides.{nat_tests}
@@ -105,7 +105,7 @@ spelled_known : (n : ℕ) (ks : List Kind) (s : Spelled) → IsSpelled ks s → 
 spelled_known n _ _ (relation j i ks ps d) h = record {
   above = h.1.0;
   below = h.1.1.1.0;
-  right = right_known n ks ps d h.1.1.1.1.1.1
+  right = right_known n ks ps d h.1.1.1.1.1.1;
 }
 
 known_found : (n : ℕ) (ks : List Kind) (c : Clipped) (o : Option Spelled) → o ≡ spelled_by ks → Some c ≡ option_map spelled_clipped o → AreKnown n ks → IsUpTo n c

@@ -5,3 +5,6 @@ pub mod Grammar
 pub mod Known
 pub mod Agreement
 pub mod Drafts
+pub mod Whole
+pub mod Saying
+pub mod Presented

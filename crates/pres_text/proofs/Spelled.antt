@@ -1,9 +1,9 @@
 -- The powers of a right side from their front.
-use Rattle.std.proofs.Common.{◌≡◌, ℕ, Bool, true, false, ℤ, pos, List, [], ◌∷◌, ◌++◌, map, length, ◌≤◌, arith, Option, Some, None, option_map, refl, sym, ◌∙◌, ap, append_assoc}
+use Rattle.std.proofs.Common.{◌≡◌, ℕ, true, ℤ, pos, List, [], ◌∷◌, ◌++◌, length, ◌≤◌, arith, Option, Some, None, option_map, refl, sym, ◌∙◌, ap, append_assoc}
 use Rattle.line_tokens.specs.declared.kind.Kind.{Kind}
-use Rattle.line_tokens.specs.declared.kind.Kind.TheVariants.{Name, Integer, Star, Caret, Open, Close, SquareOpen, SquareClose, Comma, Equal, Bar, Solve, Quotient, Other}
+use Rattle.line_tokens.specs.declared.kind.Kind.TheVariants.{Name, Integer, Star, Caret, SquareOpen, SquareClose, Comma, Equal}
 use Rattle.nil_pres.specs.declared.syllable.Syllable.{Syllable}
-use Rattle.pres_text.specs.Relation.{Power, Spelled, before, powers_by, right_by, spelled_by}
+use Rattle.pres_text.specs.Relation.{Power, before, powers_by, right_by, spelled_by}
 use Rattle.pres_text.specs.Spelling.{syllable_of, syllables_of, power_by, powers_seen, star_by, bracket_by, Clipped, spelled_clipped}
 
 -- the syllables of one power, and of what stands behind it

@@ -4,7 +4,7 @@
 --   content file     the lines that say something: the others are blank or begin with a #
 --   words text       the longest runs of bytes that aren't blanks
 --   is_text text     each byte is a tab or 32 to 126
-use Rattle.std.specs.Prelude.{ℕ, ◌+◌, ◌==◌, ◌&&◌, ◌||◌, not, nat_le, Bool, cond, List, [], ◌∷◌, length, filter, if◌then◌else◌}
+use Rattle.std.specs.Prelude.{ℕ, ◌+◌, ◌==◌, ◌&&◌, ◌||◌, nat_le, Bool, List, [], ◌∷◌, length, filter, if◌then◌else◌}
 use Rattle.std.specs.List.{list_all, slice_split}
 use Rattle.std.specs.Str.Lines.{strip_carriage_return}
 use Rattle.line_tokens.specs.Tokens.{is_blank, is_silent}

@@ -12,7 +12,6 @@ use Rattle.nil_pres.specs.declared.name_fault.NameFault.TheVariants as name
 use Rattle.nil_pres.specs.declared.relation_fault.RelationFault.{RelationFault}
 use Rattle.nil_pres.specs.declared.relation_fault.RelationFault.TheVariants as fault
 use Rattle.nil_pres.specs.Presented as nil
-use Rattle.pres_text.specs.declared.file_kind.FileKind.{FileKind}
 use Rattle.pres_text.specs.declared.file_kind.FileKind.TheVariants as kind
 use Rattle.pres_text.specs.declared.pres_fault.PresFault.{PresFault}
 use Rattle.pres_text.specs.declared.pres_fault.PresFault.TheVariants.{File, Memory}

@@ -4,7 +4,7 @@
 --   power_by ks       the power at the front of tokens, and those behind it
 --   star_by ks        the tokens behind a * at the front
 --   bracket_by ks     the generators of the bracket at the front, and the tokens behind the =
-use Rattle.std.specs.Prelude.{◌≡◌, ℕ, ◌^◌, ◌-◌, Bool, List, [], ◌∷◌, map, ℤ, negsuc, pos, Option, Some, None, option_map, unwrap_or, if◌then◌else◌}
+use Rattle.std.specs.Prelude.{ℕ, ◌^◌, ◌-◌, List, ◌∷◌, map, ℤ, negsuc, pos, Option, Some, None, option_map, unwrap_or, if◌then◌else◌}
 use Rattle.nil_pres.specs.declared.syllable.Syllable.{Syllable}
 use Rattle.line_tokens.specs.declared.kind.Kind.{Kind}
 use Rattle.line_tokens.specs.declared.kind.Kind.TheVariants as k

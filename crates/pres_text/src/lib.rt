@@ -14,4 +14,4 @@ mod words;
 
 pub use file_kind::FileKind;
 pub use pres_fault::PresFault;
-
+pub use reading::read;

@@ -1,4 +1,4 @@
-use Rattle.std.proofs.Common.{◌≡◌, ◌∙◌, ap, ℕ, List, option_map, Option, IfSome, IfNone, Result, subst, sym}
+use Rattle.std.proofs.Common.{◌≡◌, ◌∙◌, ap, ℕ, List, option_map, IfSome, IfNone, subst, sym}
 use Rattle.std.proofs.lemmas.Str.{IsUtf8-from_ascii}
 use Rattle.nil_pres.specs.Presented.{Draft, name_fault_of}
 use Rattle.pres_text.specs.declared.pres_fault.PresFault.{PresFault}

@@ -9,7 +9,7 @@ abbrev pub invariant-names : goal.invariant-names
 invariant-names l = record {
   fault : names_fault l.fn.builder.names (words l.fn.names) ≡ names_fault l.builder.names (words l.rest);
   draft : named l.fn.builder (words l.fn.names) ≡ named l.builder (words l.rest);
-  ascii : IsAscii l.rest
+  ascii : IsAscii l.rest;
 }
 
 abbrev pub decreases-names : goal.decreases-names

@@ -1,4 +1,4 @@
-use Rattle.std.proofs.Common.{◌≡◌, ap, sym, ◌∙◌, ◌∷◌, drop, arith}
+use Rattle.std.proofs.Common.{ap, sym, ◌∙◌, ◌∷◌, drop, arith}
 use Rattle.pres_text.specs.Lines.{lines}
 use Rattle.pres_text.proofs.Pieces.{lines-front, lines-whole}
 use Rattle.pres_text.proofs.lines.first_line.Goals as goal

@@ -1,7 +1,6 @@
-use Rattle.std.proofs.Common.{◌≡◌, ℕ, List, Option, Some, map, option_map, ap, sym, ◌∙◌, length}
+use Rattle.std.proofs.Common.{map, option_map, ap, sym, ◌∙◌, length}
 use Rattle.line_tokens.specs.declared.token.Token.{Token}
-use Rattle.line_tokens.specs.Tokens.{tokens}
-use Rattle.pres_text.specs.Relation.{relation_word, spelled_by}
+use Rattle.pres_text.specs.Relation.{spelled_by}
 use Rattle.pres_text.specs.Spelling.{spelled_clipped}
 use Rattle.pres_text.specs.Seen.{spelled_seen}
 use Rattle.pres_text.proofs.Known.{IsUpTo, found_known}

@@ -6,7 +6,7 @@ use Rattle.pres_text.proofs.relations.add_lines.Given as goal
 abbrev pub invariant-lines : goal.invariant-lines
 invariant-lines l = record {
   fault : rest_fault l.fn.builder (content_from l.fn.left.number (lines l.fn.left.rest.now)) ≡ rest_fault l.builder (content_from l.left.number (lines l.left.rest.now));
-  draft : related l.fn.builder (content_from l.fn.left.number (lines l.fn.left.rest.now)) ≡ related l.builder (content_from l.left.number (lines l.left.rest.now))
+  draft : related l.fn.builder (content_from l.fn.left.number (lines l.fn.left.rest.now)) ≡ related l.builder (content_from l.left.number (lines l.left.rest.now));
 }
 
 abbrev pub decreases-lines : goal.decreases-lines

@@ -1,4 +1,4 @@
-use Rattle.std.proofs.Common.{◌≡◌, List, map, option_map, length}
+use Rattle.std.proofs.Common.{◌≡◌, map, option_map, length}
 use Rattle.line_tokens.specs.declared.token.Token.{Token}
 use Rattle.pres_text.specs.Relation.{powers_by}
 use Rattle.pres_text.specs.Spelling.{syllables_of}

@@ -1,4 +1,4 @@
-use Rattle.std.proofs.Common.{◌≡◌, List, Option, Some, None, map, option_map, ap, sym, ◌∙◌}
+use Rattle.std.proofs.Common.{Some, None, map, option_map, ap, sym, ◌∙◌}
 use Rattle.line_tokens.specs.declared.token.Token.{Token}
 use Rattle.pres_text.proofs.Spelled.{spelled_by-found}
 use Rattle.pres_text.proofs.spelling.spelled.Goals as goal

@@ -1,8 +1,6 @@
-use Rattle.std.proofs.Common.{◌≡◌, ap, sym, subst, ◌∙◌, ◌∷◌, List, ℕ, drop, not, arith}
-use Rattle.std.specs.List.{prefix_len}
+use Rattle.std.proofs.Common.{ap, sym, subst, ◌∙◌, ◌∷◌, drop, arith}
 use Rattle.std.specs.Str.{IsAscii}
 use Rattle.std.proofs.lemmas.Str.{IsAscii-take, IsAscii-drop}
-use Rattle.line_tokens.specs.Tokens.{is_blank}
 use Rattle.pres_text.specs.Lines.{words}
 use Rattle.pres_text.proofs.Pieces.{words-blanks, words-front, words-behind}
 use Rattle.pres_text.proofs.words.next_word.Goals as goal
@@ -21,6 +19,7 @@ returns-clause-word c =
 
 pub returns-clause-ascii : goal.returns-clause-ascii
 returns-clause-ascii c = λ h.
-    let behind : IsAscii c.split_at.result.1.now = subst IsAscii (sym c.split_at.ensures.back) (IsAscii-drop c.args.text.now c.blanks_len.result h) in
-    (subst IsAscii (sym c.split_at-2.ensures.front) (IsAscii-take c.split_at.result.1.now c.word_len-len.result behind),
-    subst IsAscii (sym c.split_at-2.ensures.back) (IsAscii-drop c.split_at.result.1.now c.word_len-len.result behind))
+    let behind : IsAscii c.split_at.result.1.now = subst IsAscii (sym c.split_at.ensures.back) (IsAscii-drop c.args.text.now c.blanks_len.result h) in (
+      subst IsAscii (sym c.split_at-2.ensures.front) (IsAscii-take c.split_at.result.1.now c.word_len-len.result behind),
+      subst IsAscii (sym c.split_at-2.ensures.back) (IsAscii-drop c.split_at.result.1.now c.word_len-len.result behind),
+    )
