@@ -1,9 +1,10 @@
 -- The text of a query: its tokens, with brackets only where the grammar needs them, and their bytes.
 --   Written           what an expression is, as far as brackets around it go, and its tokens
+--   enclosed b ks     in round brackets, where b is true
 --   as_item, as_base, as_conjugator   inside a product, before a `^`, and behind one
 --   written e, written_query q        the tokens of an expression, and of a query
 --   kind_text, text_of, query_text    the bytes of a token, of tokens, and of a query
-use Rattle.std.specs.Prelude.{ℕ, ◌-◌, ℤ, pos, true, List, [], ◌∷◌, ◌++◌, map, slice_index_or, Some, None, codes}
+use Rattle.std.specs.Prelude.{ℕ, zero, suc, ◌-◌, ℤ, pos, Bool, true, false, List, [], ◌∷◌, ◌++◌, map, slice_index_or, Some, None, codes}
 use Rattle.std.specs.List.{flat_map}
 use Rattle.std.specs.Ordering.{int_eq}
 use Rattle.std.specs.Fmt.{signed_decimal}
@@ -20,32 +21,54 @@ pub record Written : Type 0 where
   pub shape : Shape
   pub tokens : List Kind
 
-abbrev pub bracketed : List Kind → List Kind
-bracketed ks = k.Open ∷ ks ++ k.Close ∷ []
+-- in round brackets, or without
+abbrev pub enclosed : Bool → List Kind → List Kind
+enclosed true ks = k.Open ∷ ks ++ k.Close ∷ []
+enclosed false ks = ks
 
 -- a product inside a product stands in brackets
-abbrev pub as_item : Shape → List Kind → List Kind
-as_item shape.Many ks = bracketed ks
-as_item _ ks = ks
+abbrev pub breaks_item : Shape → Bool
+breaks_item shape.Many = true
+breaks_item _ = false
 
 -- before a `^` so does a power and a conjugate
-abbrev pub as_base : Shape → List Kind → List Kind
-as_base shape.Many ks = bracketed ks
-as_base shape.Raised ks = bracketed ks
-as_base _ ks = ks
+abbrev pub breaks_base : Shape → Bool
+breaks_base shape.Many = true
+breaks_base shape.Raised = true
+breaks_base _ = false
 
 -- behind a `^` so does `1` too, which would be an exponent
+abbrev pub breaks_conjugator : Shape → Bool
+breaks_conjugator shape.Atom = false
+breaks_conjugator _ = true
+
+abbrev pub bracketed : List Kind → List Kind
+bracketed ks = enclosed true ks
+
+abbrev pub as_item : Shape → List Kind → List Kind
+as_item s ks = enclosed (breaks_item s) ks
+
+abbrev pub as_base : Shape → List Kind → List Kind
+as_base s ks = enclosed (breaks_base s) ks
+
 abbrev pub as_conjugator : Shape → List Kind → List Kind
-as_conjugator shape.Atom ks = ks
-as_conjugator _ ks = bracketed ks
+as_conjugator s ks = enclosed (breaks_conjugator s) ks
 
 abbrev pub joined_by_star : List (List Kind) → List Kind
 joined_by_star [] = []
 joined_by_star (ks ∷ []) = ks
 joined_by_star (ks ∷ rest) = ks ++ k.Star ∷ joined_by_star rest
 
+-- what stands before the factor at a place, from 0
+abbrev pub star_before : ℕ → List Kind
+star_before zero = []
+star_before (suc i) = k.Star ∷ []
+
 abbrev pub item_tokens : Written → List Kind
 item_tokens w = as_item w.shape w.tokens
+
+abbrev pub exponent_token : ℤ → Kind
+exponent_token e = k.Integer (int_eq e (pos 1)) (Some e)
 
 -- one level, by its parts
 abbrev pub written_level : Expr-F Written → Written
@@ -54,7 +77,7 @@ written_level (Gen g) = record { shape = shape.Atom; tokens = k.Name g ∷ [] }
 written_level (Product ws) = record { shape = shape.Many; tokens = joined_by_star (map item_tokens ws) }
 written_level (Pow w e) = record {
   shape = shape.Raised;
-  tokens = as_base w.shape w.tokens ++ k.Caret ∷ k.Integer (int_eq e (pos 1)) (Some e) ∷ [];
+  tokens = as_base w.shape w.tokens ++ k.Caret ∷ exponent_token e ∷ [];
 }
 written_level (Conj u v) = record {
   shape = shape.Raised;
@@ -75,23 +98,37 @@ written_query (query.Solve u v) = k.Solve ∷ ((written u).tokens ++ k.Bar ∷ (
 written_query (query.Quotient u v) = k.Quotient ∷ ((written u).tokens ++ k.Bar ∷ (written v).tokens)
 written_query query.Blank = []
 
--- the text of a token; none where no written token is so
+-- the text of a token that is always written alike, with the blanks around it
+abbrev pub fixed : Kind → List ℕ
+fixed k.Star = codes "*"
+fixed k.Caret = codes "^"
+fixed k.Open = codes "("
+fixed k.Close = codes ")"
+fixed k.SquareOpen = codes "["
+fixed k.SquareClose = codes "]"
+fixed k.Comma = codes ","
+fixed k.Equal = codes " = "
+fixed k.Bar = codes " | "
+fixed k.Solve = codes "solve "
+fixed k.Quotient = codes "quotient "
+fixed _ = []
+
 abbrev pub kind_text : List (List ℕ) → Kind → List ℕ
 kind_text names (k.Name g) = slice_index_or names (g - 1) []
 kind_text names (k.Integer one (Some n)) = signed_decimal n
-kind_text names (k.Integer one None) = []
-kind_text names k.Star = codes "*"
-kind_text names k.Caret = codes "^"
-kind_text names k.Open = codes "("
-kind_text names k.Close = codes ")"
-kind_text names k.SquareOpen = codes "["
-kind_text names k.SquareClose = codes "]"
-kind_text names k.Comma = codes ","
-kind_text names k.Equal = codes " = "
-kind_text names k.Bar = codes " | "
-kind_text names k.Solve = codes "solve "
-kind_text names k.Quotient = codes "quotient "
-kind_text names k.Other = []
+kind_text names (k.Integer one None) = fixed (k.Integer one None)
+kind_text names k.Star = fixed k.Star
+kind_text names k.Caret = fixed k.Caret
+kind_text names k.Open = fixed k.Open
+kind_text names k.Close = fixed k.Close
+kind_text names k.SquareOpen = fixed k.SquareOpen
+kind_text names k.SquareClose = fixed k.SquareClose
+kind_text names k.Comma = fixed k.Comma
+kind_text names k.Equal = fixed k.Equal
+kind_text names k.Bar = fixed k.Bar
+kind_text names k.Solve = fixed k.Solve
+kind_text names k.Quotient = fixed k.Quotient
+kind_text names k.Other = fixed k.Other
 
 abbrev pub text_of : List (List ℕ) → List Kind → List ℕ
 text_of names ks = flat_map (kind_text names) ks
