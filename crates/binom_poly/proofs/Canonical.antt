@@ -27,7 +27,7 @@ use Rattle.binom_poly.proofs.Expanding.{prefixed-append}
 use Rattle.binom_poly.proofs.Multiplying.{value-prefixed}
 use Rattle.binom_poly.proofs.Spreading.{nonzero_product}
 
-first_term : (t : Term) (ts : List Term) → IsPolynomialFrom t ts → IsTerm t
+pub first_term : (t : Term) (ts : List Term) → IsPolynomialFrom t ts → IsTerm t
 unfolding IsPolynomialFrom
 first_term t [] h = h
 first_term t (u ∷ us) h = h.0
@@ -37,7 +37,7 @@ unfolding IsPolynomial
 all_monomials [] h = tt
 all_monomials (t ∷ ts) h = ((first_term t ts h).monomial, all_monomials ts (rest_is t ts h))
 
-other : (ms ns : List Part) → monomial_cmp ms ns ≡ Less → same_parts ms ns ≡ false
+pub other : (ms ns : List Part) → monomial_cmp ms ns ≡ Less → same_parts ms ns ≡ false
 other ms ns l =
     elim (cases_Bool (same_parts ms ns)) [
       | inl e ↦ absurd (before_irrefl ns (subst (λ (ks : List Part). monomial_cmp ks ns ≡ Less) ((same_parts_is ms ns).0 e) l))
