@@ -1,0 +1,10 @@
+pub mod Pieces
+pub mod Spelled
+pub mod Faults
+pub mod Grammar
+pub mod Known
+pub mod Agreement
+pub mod Drafts
+pub mod Whole
+pub mod Saying
+pub mod Presented

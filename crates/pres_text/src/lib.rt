@@ -1,0 +1,17 @@
+//! Reads presentation files and writes them. Every byte sequence is read as its presentation or
+//! refused with its first fault. Not promised: that a presentation is consistent.
+#![tactic(auto)]
+
+mod file_kind;
+mod generators;
+mod lines;
+mod pres_fault;
+mod reading;
+mod relation_words;
+mod relations;
+mod spelling;
+mod words;
+
+pub use file_kind::FileKind;
+pub use pres_fault::PresFault;
+pub use reading::read;
