@@ -15,3 +15,6 @@ mod words;
 pub use file_kind::FileKind;
 pub use pres_fault::PresFault;
 pub use reading::read;
+
+#[cfg(test)]
+mod tests;
