@@ -1,6 +1,6 @@
 //! Files and their first faults.
 
-use super::read;
+use super::{read, write};
 use nil_pres::Syllable;
 use std::alloc::Global;
 use std::test::Fail;
@@ -58,5 +58,13 @@ fn leaves_comments_and_carriage_returns_away(rt: HostRuntime) -> Result<(), Fail
         pres.right_side(2, 1),
         [Syllable { number: 3, exp: 1 }].as_slice()
     );
+    Ok(())
+}
+
+#[test]
+fn writes_the_canonical_text(rt: HostRuntime) -> Result<(), Fail> {
+    let pres = read(rt.alloc(), RETURNS.as_bytes())?;
+    let text = write(rt.alloc(), &pres)?;
+    assert_eq!(rt; text.as_str(), "nilpotent 1\ngenerators s t c\n[t,s] = c\n");
     Ok(())
 }
