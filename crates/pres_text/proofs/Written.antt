@@ -9,12 +9,6 @@ use Rattle.pres_text.specs.Text.{name_of, power_text, right_text, line_text, pai
 pub pairs_text-next : (p : Presented) (j i : ℕ) → pairs_text p j (i + 1) ≡ pairs_text p j i ++ line_text p.names j (i + 1) (right_side p j (i + 1))
 pairs_text-next p j i = rw (add-one i) refl
 
-pub relations_text-next : (p : Presented) (j : ℕ) → relations_text p (j + 1) ≡ relations_text p j ++ pairs_text p (j + 1) j
-relations_text-next p j = rw (add-one j) refl
-
-pub names_text-next : (names : List (List ℕ)) (k : ℕ) → names_text names (k + 1) ≡ names_text names k ++ codes " " ++ name_of names (k + 1)
-names_text-next names k = rw (add-one k) refl
-
 abbrev times_text : List (List ℕ) → List Syllable → List ℕ
 times_text names right = flat_map (λ t. codes "*" ++ power_text names t) right
 
