@@ -128,7 +128,7 @@ unfolding prefixed
 multiples_none c ts made e = record { are = e; within = subst AllWithin (sym e) tt }
 
 pub multiples_more : (c : ℤ) (ts : List Term) (i : ℕ) (made new : List Term) (t : Term) (ms : List Part) (z : ℤ) → i < length ts → t ≡ get_or ts i t → MultiplesSoFar c ts i made → ms ≡ t.monomial → z ≡ c *ℤ t.coefficient → unsigned_abs (c *ℤ t.coefficient) < 2 ^ 127
-  → new ≡ made ++ contribution ms z ∷ [] → MultiplesSoFar c ts (i + 1) new
+    → new ≡ made ++ contribution ms z ∷ [] → MultiplesSoFar c ts (i + 1) new
 unfolding prefixed
 multiples_more c ts i made new t ms z l e h f g w n = record {
   are = n ∙ ap (λ (us : List Term). us ++ contribution ms z ∷ []) h.are
@@ -151,7 +151,7 @@ quotient_of-append [] us m = refl
 quotient_of-append (t ∷ ts) us m = ap (λ (vs : List Term). contribution t.monomial (int_div t.coefficient (pos m)) ∷ vs) (quotient_of-append ts us m)
 
 pub quotients_more : (m : ℕ) (ts : List Term) (i : ℕ) (made new : List Term) (t : Term) (ms : List Part) (z : ℤ) → i < length ts → t ≡ get_or ts i t → made ≡ quotient_of (take i ts) m → ms ≡ t.monomial → z ≡ int_div t.coefficient (pos m)
-  → new ≡ made ++ contribution ms z ∷ [] → new ≡ quotient_of (take (i + 1) ts) m
+    → new ≡ made ++ contribution ms z ∷ [] → new ≡ quotient_of (take (i + 1) ts) m
 unfolding quotient_of
 quotients_more m ts i made new t ms z l e h f g n =
     n ∙ ap (λ (us : List Term). us ++ contribution ms z ∷ []) h

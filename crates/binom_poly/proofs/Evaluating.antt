@@ -70,7 +70,7 @@ top_at : (xs : List Top) (i : ℕ) (t : Top) → i < length xs → t ≡ get_or 
 top_at xs i t l e = (take_at_read xs i t l).1 ∙ ap (λ (u : Top). take i xs ++ u ∷ []) (sym e)
 
 pub reading_more : (rows : List Reading) (tops : List Top) (i : ℕ) (t : Top) (row : Reading) (v : ℕ) → i < length tops → t ≡ get_or tops i t → t.var < length rows → row ≡ record { value = pos 0; width = t.top + 1 }
-  → reading_at rows v ≡ record { value = pos 0; width = width_of (take i tops) v } → reading_at (set rows t.var row) v ≡ record { value = pos 0; width = width_of (take (i + 1) tops) v }
+    → reading_at rows v ≡ record { value = pos 0; width = width_of (take i tops) v } → reading_at (set rows t.var row) v ≡ record { value = pos 0; width = width_of (take (i + 1) tops) v }
 reading_more rows tops i t row v l e m f h =
     elim (cases_Bool (eqb t.var v)) [
       | inl b ↦
@@ -134,7 +134,7 @@ no_less m n k h l = grind arith
 
 -- a product on the way that passes shows that the last one does
 pub factors_pass : (a : ℕ → ℤ) (ms : List Part) (i : ℕ) (p : Part) (c product : ℤ) → i < length ms → p ≡ get_or ms i p → monomial_value a ms ≢ pos 0 → product ≡ c *ℤ monomial_value a (take i ms)
-  → 2 ^ 127 ≤ unsigned_abs (product *ℤ choose (a p.var) p.exp) → 2 ^ 127 ≤ unsigned_abs (c *ℤ monomial_value a ms)
+    → 2 ^ 127 ≤ unsigned_abs (product *ℤ choose (a p.var) p.exp) → 2 ^ 127 ≤ unsigned_abs (c *ℤ monomial_value a ms)
 factors_pass a ms i p c product l e z f h =
     let front = monomial_value a (take (i + 1) ms) in
     let back = monomial_value a (drop (i + 1) ms) in
@@ -189,7 +189,7 @@ abs_sum : (x y : ℤ) → unsigned_abs (x +ℤ y) ≤ unsigned_abs x + unsigned_
 abs_sum x y = omega (arith, ints)
 
 pub value_more : (a : ℕ → ℤ) (ts : List Term) (i : ℕ) (t : Term) (sum next new : ℤ) (magnitude more : ℕ) → i < length ts → t ≡ get_or ts i t → ValueSoFar a ts i sum magnitude → next ≡ t.coefficient *ℤ monomial_value a t.monomial
-  → new ≡ sum +ℤ next → more ≡ magnitude + unsigned_abs next → more < 2 ^ 127 → ValueSoFar a ts (i + 1) new more
+    → new ≡ sum +ℤ next → more ≡ magnitude + unsigned_abs next → more < 2 ^ 127 → ValueSoFar a ts (i + 1) new more
 value_more a ts i t sum next new magnitude more l e h f g m w = record {
   sum_is = g ∙ ap (λ z. z +ℤ next) h.sum_is ∙ ap (λ z. value_of a (take i ts) +ℤ z) (f ∙ sym (value-one a t)) ∙ sym (ap (value_of a) (term_at ts i t l e) ∙ value-append a (take i ts) (t ∷ []));
   magnitude_is = m ∙ ap (λ (n : ℕ). n + unsigned_abs next) h.magnitude_is ∙ ap (λ z. magnitude_of a (take i ts) + unsigned_abs z) f ∙ sym (magnitude_more a ts i t l e);

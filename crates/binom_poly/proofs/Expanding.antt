@@ -82,7 +82,7 @@ right_first pre ms ns c p q ps qs e f l =
     ∙ ap (λ (ks : List Part). prefixed (pre ++ q ∷ []) c (monomial_product ks qs)) (sym e)
 
 pub both_first : (pre ms ns : List Part) (c : ℤ) (p q : Part) (ps qs : List Part) → ms ≡ p ∷ ps → ns ≡ q ∷ qs → p.var ≡ q.var
-  → prefixed pre c (monomial_product ms ns) ≡ prefixed pre c (with_shared p.var p.exp q.exp (max p.exp q.exp) (min p.exp q.exp + 1) (monomial_product ps qs))
+    → prefixed pre c (monomial_product ms ns) ≡ prefixed pre c (with_shared p.var p.exp q.exp (max p.exp q.exp) (min p.exp q.exp + 1) (monomial_product ps qs))
 both_first pre ms ns c p q ps qs e f l =
     ap (λ (ks : List Part). prefixed pre c (monomial_product ks ns)) e
     ∙ ap (λ (ks : List Part). prefixed pre c (monomial_product (p ∷ ps) ks)) f
@@ -208,15 +208,15 @@ shared_part pre c v a b k m n i ts e =
     ∙ ap (λ (j : ℕ). prefixed pre c (with_shared v a b k n ts ++ with_shared v a b j (suc i) ts)) e
     ∙ prefixed-append pre c (with_shared v a b k n ts) (with_shared v a b m (suc i) ts)
     ∙ ap (λ (us : List Term). prefixed pre c (with_shared v a b k n ts) ++ us)
-      (prefixed-append pre c (with_part record { var = v; exp = m } (pos (ways m a * ways a (m - b))) ts) (with_shared v a b (suc m) i ts)
-      ∙ ap (λ (us : List Term). us ++ prefixed pre c (with_shared v a b (suc m) i ts)) (prefixed-with_part pre c (pos (ways m a * ways a (m - b))) record { var = v; exp = m } ts))
+    (prefixed-append pre c (with_part record { var = v; exp = m } (pos (ways m a * ways a (m - b))) ts) (with_shared v a b (suc m) i ts)
+    ∙ ap (λ (us : List Term). us ++ prefixed pre c (with_shared v a b (suc m) i ts)) (prefixed-with_part pre c (pos (ways m a * ways a (m - b))) record { var = v; exp = m } ts))
 
 pub shared_none : (es : List (List Part × Sum)) (pre : List Part) (c : ℤ) (v a b k n : ℕ) (ts : List Term) → n ≡ 0 → Gains es es [] → Gains es es (prefixed pre c (with_shared v a b k n ts))
 unfolding with_shared prefixed
 shared_none es pre c v a b k n ts e g = subst (λ (i : ℕ). Gains es es (prefixed pre c (with_shared v a b k i ts))) (sym e) g
 
 pub shared_more : (es s new : List (List Part × Sum)) (pre : List Part) (c : ℤ) (v a b k m : ℕ) (ts : List Term) → k ≤ m
-  → Gains es s (prefixed pre c (with_shared v a b k (m - k) ts)) → Gains s new (summand pre c v a b m ts) → Gains es new (prefixed pre c (with_shared v a b k (m + 1 - k) ts))
+    → Gains es s (prefixed pre c (with_shared v a b k (m - k) ts)) → Gains s new (summand pre c v a b m ts) → Gains es new (prefixed pre c (with_shared v a b k (m + 1 - k) ts))
 unfolding with_shared prefixed
 shared_more es s new pre c v a b k m ts l g h =
     subst (Gains es new)
@@ -225,7 +225,7 @@ shared_more es s new pre c v a b k m ts l g h =
     (gains_append es s new (prefixed pre c (with_shared v a b k (m - k) ts)) (summand pre c v a b m ts) g h)
 
 pub shared_overflows : (es s : List (List Part × Sum)) (pre : List Part) (c : ℤ) (v a b k m n : ℕ) (ts : List Term) → k ≤ m → m < k + n
-  → Gains es s (prefixed pre c (with_shared v a b k (m - k) ts)) → Overflows s (summand pre c v a b m ts) → Overflows es (prefixed pre c (with_shared v a b k n ts))
+    → Gains es s (prefixed pre c (with_shared v a b k (m - k) ts)) → Overflows s (summand pre c v a b m ts) → Overflows es (prefixed pre c (with_shared v a b k n ts))
 shared_overflows es s pre c v a b k m n ts l k' g o =
     subst (Overflows es)
     (sym (ap (λ (i : ℕ). prefixed pre c (with_shared v a b k i ts)) (let e : n ≡ m - k + suc (n - (m - k) - 1) = omega arith in e) ∙ shared_part pre c v a b k m (m - k) (n - (m - k) - 1) ts (omega arith)))

@@ -49,19 +49,19 @@ pub right_none : (pre ms ns : List Part) (c z : ℤ) → z ≡ c → length ms �
 right_none pre ms ns c z e k h = ap (λ (x : ℤ). contribution (pre ++ ms) x ∷ []) e ∙ sym (product_none_right pre ms ns c k h)
 
 pub left_less : (pre ms ns : List Part) (c z : ℤ) (d : Part) → z ≡ c → length ms ≢ 0 → length ns ≢ 0 → (get_or ms 0 d).var < (get_or ns 0 d).var
-  → prefixed (pre ++ get_or ms 0 d ∷ []) z (monomial_product (rest_of ms) ns) ≡ prefixed pre c (monomial_product ms ns)
+    → prefixed (pre ++ get_or ms 0 d ∷ []) z (monomial_product (rest_of ms) ns) ≡ prefixed pre c (monomial_product ms ns)
 left_less pre ms ns c z d e h k l =
     ap (λ x. prefixed (pre ++ get_or ms 0 d ∷ []) x (monomial_product (rest_of ms) ns)) e
     ∙ sym (left_first pre ms ns c (get_or ms 0 d) (get_or ns 0 d) (rest_of ms) (rest_of ns) (front_is ms d h) (front_is ns d k) l)
 
 pub right_less : (pre ms ns : List Part) (c z : ℤ) (d : Part) → z ≡ c → length ms ≢ 0 → length ns ≢ 0 → (get_or ns 0 d).var < (get_or ms 0 d).var
-  → prefixed (pre ++ get_or ns 0 d ∷ []) z (monomial_product ms (rest_of ns)) ≡ prefixed pre c (monomial_product ms ns)
+    → prefixed (pre ++ get_or ns 0 d ∷ []) z (monomial_product ms (rest_of ns)) ≡ prefixed pre c (monomial_product ms ns)
 right_less pre ms ns c z d e h k l =
     ap (λ x. prefixed (pre ++ get_or ns 0 d ∷ []) x (monomial_product ms (rest_of ns))) e
     ∙ sym (right_first pre ms ns c (get_or ms 0 d) (get_or ns 0 d) (rest_of ms) (rest_of ns) (front_is ms d h) (front_is ns d k) l)
 
 pub neither_less : (pre ms ns : List Part) (c z : ℤ) (d : Part) → z ≡ c → length ms ≢ 0 → length ns ≢ 0 → (get_or ns 0 d).var ≤ (get_or ms 0 d).var → (get_or ms 0 d).var ≤ (get_or ns 0 d).var
-  → shared_terms pre z (get_or ms 0 d) (get_or ns 0 d) (monomial_product (rest_of ms) (rest_of ns)) ≡ prefixed pre c (monomial_product ms ns)
+    → shared_terms pre z (get_or ms 0 d) (get_or ns 0 d) (monomial_product (rest_of ms) (rest_of ns)) ≡ prefixed pre c (monomial_product ms ns)
 neither_less pre ms ns c z d e h k l m =
     ap (λ x. shared_terms pre x (get_or ms 0 d) (get_or ns 0 d) (monomial_product (rest_of ms) (rest_of ns))) e
     ∙ sym (both_first pre ms ns c (get_or ms 0 d) (get_or ns 0 d) (rest_of ms) (rest_of ns) (front_is ms d h) (front_is ns d k) (omega arith))
@@ -92,7 +92,7 @@ pub shared_form : (pre now : List Part) (p q r : Part) (k : ℕ) (ps : List Part
 shared_form pre now p q r k ps e f v l m = subst (λ (ks : List Part). IsMonomial (ks ++ record { var = p.var; exp = k } ∷ ps)) (sym e) (form_exponent 0 pre r record { var = p.var; exp = k } ps f v l m)
 
 pub shared_steps : (es s new : List (List Part × Sum)) (pre now last : List Part) (c z d : ℤ) (p q : Part) (k : ℕ) (ts : List Term) → SharedSoFar es s pre now c p q k ts → z ≡ d → d ≡ c *ℤ pos (ways k p.exp * ways p.exp (k - q.exp)) → max p.exp q.exp ≤ k → last ≡ now
-  → Gains s new (prefixed (now ++ record { var = p.var; exp = k } ∷ []) z ts) → SharedSoFar es new pre last c p q (k + 1) ts
+    → Gains s new (prefixed (now ++ record { var = p.var; exp = k } ∷ []) z ts) → SharedSoFar es new pre last c p q (k + 1) ts
 shared_steps es s new pre now last c z d p q k ts h e f l i g = record {
   gains = shared_more es s new pre c p.var p.exp q.exp (max p.exp q.exp) k ts l h.gains
       (subst (λ x. Gains s new (prefixed (pre ++ record { var = p.var; exp = k } ∷ []) x ts)) (e ∙ f)
@@ -101,7 +101,7 @@ shared_steps es s new pre now last c z d p q k ts h e f l i g = record {
 }
 
 pub shared_stops : (es s : List (List Part × Sum)) (pre now : List Part) (c z d b : ℤ) (p q : Part) (k : ℕ) (ts : List Term) → SharedSoFar es s pre now c p q k ts → c ≡ b → z ≡ d → d ≡ c *ℤ pos (ways k p.exp * ways p.exp (k - q.exp)) → max p.exp q.exp ≤ k → k ≤ p.exp + q.exp
-  → Overflows s (prefixed (now ++ record { var = p.var; exp = k } ∷ []) z ts) → Overflows es (shared_terms pre b p q ts)
+    → Overflows s (prefixed (now ++ record { var = p.var; exp = k } ∷ []) z ts) → Overflows es (shared_terms pre b p q ts)
 shared_stops es s pre now c z d b p q k ts h a e f l m o =
     subst (λ x. Overflows es (shared_terms pre x p q ts)) a
     (shared_overflows es s pre c p.var p.exp q.exp (max p.exp q.exp) k (min p.exp q.exp + 1) ts l (omega arith) h.gains
@@ -109,7 +109,7 @@ shared_stops es s pre now c z d b p q k ts h a e f l m o =
     (subst (λ (ks : List Part). Overflows s (prefixed (ks ++ record { var = p.var; exp = k } ∷ []) z ts)) h.prefix o)))
 
 pub shared_passes : (es s : List (List Part × Sum)) (pre now : List Part) (c b : ℤ) (p q : Part) (k : ℕ) (ms ns : List Part) → SharedSoFar es s pre now c p q k (monomial_product ms ns) → c ≡ b → max p.exp q.exp ≤ k → k ≤ p.exp + q.exp
-  → 2 ^ 127 ≤ unsigned_abs (c *ℤ pos (ways k p.exp * ways p.exp (k - q.exp))) → Overflows es (shared_terms pre b p q (monomial_product ms ns))
+    → 2 ^ 127 ≤ unsigned_abs (c *ℤ pos (ways k p.exp * ways p.exp (k - q.exp))) → Overflows es (shared_terms pre b p q (monomial_product ms ns))
 shared_passes es s pre now c b p q k ms ns h a l m w =
     subst (λ x. Overflows es (shared_terms pre x p q (monomial_product ms ns))) a
     (shared_overflows es s pre c p.var p.exp q.exp (max p.exp q.exp) k (min p.exp q.exp + 1) (monomial_product ms ns) l (omega arith) h.gains
@@ -129,8 +129,8 @@ pub nonzero_product : (a b : ℤ) → a ≢ pos 0 → b ≢ pos 0 → a *ℤ b �
 nonzero_product a b h k e = elim (zero_factor a b e) [ inl x ↦ h x | inr x ↦ k x ]
 
 pub summand_of : (r : Option ℤ) (c z y : ℤ) (a b k : ℕ) → z ≡ c → y ≡ pos (ways k a * ways a (k - b)) → c ≢ pos 0 → max a b ≤ k → k ≤ a + b
-  → MatchOption r (2 ^ 127 ≤ unsigned_abs (z *ℤ y)) (λ product. (product ≡ z *ℤ y) × (unsigned_abs (z *ℤ y) < 2 ^ 127))
-  → let value = c *ℤ pos (ways k a * ways a (k - b)) in MatchOption r (2 ^ 127 ≤ unsigned_abs value) (λ product. (product ≡ value) × (unsigned_abs value < 2 ^ 127) × (product ≢ pos 0))
+    → MatchOption r (2 ^ 127 ≤ unsigned_abs (z *ℤ y)) (λ product. (product ≡ z *ℤ y) × (unsigned_abs (z *ℤ y) < 2 ^ 127))
+    → let value = c *ℤ pos (ways k a * ways a (k - b)) in MatchOption r (2 ^ 127 ≤ unsigned_abs value) (λ product. (product ≡ value) × (unsigned_abs value < 2 ^ 127) × (product ≢ pos 0))
 summand_of None c z y a b k e f h l m p = subst (λ x. 2 ^ 127 ≤ unsigned_abs x) (ap (λ x. x *ℤ y) e ∙ ap (λ x. c *ℤ x) f) p
 summand_of (Some v) c z y a b k e f h l m p =
     let g : z *ℤ y ≡ c *ℤ pos (ways k a * ways a (k - b)) = ap (λ x. x *ℤ y) e ∙ ap (λ x. c *ℤ x) f in

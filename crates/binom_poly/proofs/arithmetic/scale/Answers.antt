@@ -49,7 +49,7 @@ pub returns-clause-multiple : goal.returns-clause-multiple
 returns-clause-multiple c =
     c.of.ensures ∙ (multiples_are c.args.c _ c.terms-terms.result.now c.args.p.now c.loop-term.multiples.items c.loop-term.term-index (to_z-of_z w128 c.args.c c.ranges.c) c.terms-terms.ensures.terms (omega arith) c.loop-term.invariant).0
     ∙ other_multiple c.args.c c.args.p.now (λ h. c.if-c-eq0.false (ap (of_z w128) h))
-      (multiples_form c.args.c _ c.terms-terms.result.now c.args.p.now c.loop-term.multiples.items c.loop-term.term-index (to_z-of_z w128 c.args.c c.ranges.c) (λ h. c.if-c-eq0.false (ap (of_z w128) h)) c.terms-terms.ensures.terms c.terms-terms.ensures.form (omega arith) c.loop-term.invariant)
+    (multiples_form c.args.c _ c.terms-terms.result.now c.args.p.now c.loop-term.multiples.items c.loop-term.term-index (to_z-of_z w128 c.args.c c.ranges.c) (λ h. c.if-c-eq0.false (ap (of_z w128) h)) c.terms-terms.ensures.terms c.terms-terms.ensures.form (omega arith) c.loop-term.invariant)
 
 pub returns-clause-value : goal.returns-clause-value
 returns-clause-value c = λ a. value-scaled a c.args.c c.args.p.now c.of.result (returns-clause-multiple c)

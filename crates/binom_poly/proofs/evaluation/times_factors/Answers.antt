@@ -24,7 +24,8 @@ returns-in_default c =
 pub loop-part-preserved : goal.loop-part-preserved
 loop-part-preserved c =
     let f : FitsSigned w128 c.at.result = search rules in
-    let g : FitsSigned w128 c.in-Some.next = search rules in
-    (to_z-of_z w128 c.in-Some.next g ∙ product_more (value_at c.args.rows.now) c.args.parts.now c.loop-part.part-index _ (to_z w128 (of_z w128 c.args.number)) (to_z w128 c.loop-part.product-bits) c.in-Some.next (omega arith) (own_part c.args.parts.now c.loop-part.part-index record { var = 0; exp = 0 } (omega arith))
-        c.loop-part.invariant.0 (c.in-Some.ensures.0 ∙ ap (λ z. to_z w128 c.loop-part.product-bits *ℤ z) (to_z-of_z w128 c.at.result f ∙ c.at.ensures)),
-    subst (λ z. unsigned_abs z < 2 ^ 127) (sym (to_z-of_z w128 c.in-Some.next g ∙ c.in-Some.ensures.0)) c.in-Some.ensures.1)
+    let g : FitsSigned w128 c.in-Some.next = search rules in (
+      to_z-of_z w128 c.in-Some.next g ∙ product_more (value_at c.args.rows.now) c.args.parts.now c.loop-part.part-index _ (to_z w128 (of_z w128 c.args.number)) (to_z w128 c.loop-part.product-bits) c.in-Some.next (omega arith) (own_part c.args.parts.now c.loop-part.part-index record { var = 0; exp = 0 } (omega arith))
+          c.loop-part.invariant.0 (c.in-Some.ensures.0 ∙ ap (λ z. to_z w128 c.loop-part.product-bits *ℤ z) (to_z-of_z w128 c.at.result f ∙ c.at.ensures)),
+      subst (λ z. unsigned_abs z < 2 ^ 127) (sym (to_z-of_z w128 c.in-Some.next g ∙ c.in-Some.ensures.0)) c.in-Some.ensures.1,
+    )

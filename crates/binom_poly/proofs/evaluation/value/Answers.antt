@@ -35,5 +35,5 @@ loop-term-preserved c =
     let m = c.in-Ok.ensures.0 ∙ ap (λ n. c.loop-term.magnitude + n) (c.unsigned_abs.ensures.value ∙ ap unsigned_abs e) in
     value_more (value_at c.args.rows.now) c.terms-term-items.result.now c.loop-term.term-index c.term-item.result (to_z w128 c.loop-term.sum-bits) c.in-Some.next _ c.loop-term.magnitude c.in-Ok.more (omega arith) c.term-item.is c.loop-term.invariant c.in-Some.ensures.0
     (to_z-of_z w128 _ (fits_signed_from_abs w128 _ (sum_fits (to_z w128 c.loop-term.sum-bits) c.in-Some.next (to_z w128 (of_z w128 c.in-Some.next)) c.loop-term.magnitude c.in-Ok.more e c.loop-term.invariant.bounded m (more_within c.in-Ok.more c.loop-term.magnitude c.unsigned_abs.result c.in-Ok.ensures.0 c.in-Ok.ensures.1)))
-        ∙ ap (λ z. to_z w128 c.loop-term.sum-bits +ℤ z) e)
+    ∙ ap (λ z. to_z w128 c.loop-term.sum-bits +ℤ z) e)
     m (more_within c.in-Ok.more c.loop-term.magnitude c.unsigned_abs.result c.in-Ok.ensures.0 c.in-Ok.ensures.1)

@@ -32,9 +32,13 @@ expand-returns-then-is_empty-2-clause-wide t c =
 pub expand-expand_after-requires : goal.expand-expand_after-requires
 expand-expand_after-requires t c = (
   search rules,
-  (own_form c.args.self.now.prefix.items c.args.left.now record { var = 0; exp = 0 } (some_here _ c.if-is_empty.ensures) c.requires.left,
-  (other_form c.args.self.now.prefix.items c.args.left.now c.args.right.now record { var = 0; exp = 0 } (some_here _ c.if-is_empty.ensures) (some_here _ c.if-is_empty-2.ensures) c.if-p-q.true c.requires.left c.requires.right,
-  (within_bits c.args.coefficient _ (to_z-of_z w128 c.args.coefficient c.ranges.coefficient) c.requires.number, not_zero_bits c.args.coefficient _ (to_z-of_z w128 c.args.coefficient c.ranges.coefficient) c.requires.not_zero))),
+  (
+    own_form c.args.self.now.prefix.items c.args.left.now record { var = 0; exp = 0 } (some_here _ c.if-is_empty.ensures) c.requires.left,
+    (
+      other_form c.args.self.now.prefix.items c.args.left.now c.args.right.now record { var = 0; exp = 0 } (some_here _ c.if-is_empty.ensures) (some_here _ c.if-is_empty-2.ensures) c.if-p-q.true c.requires.left c.requires.right,
+      (within_bits c.args.coefficient _ (to_z-of_z w128 c.args.coefficient c.ranges.coefficient) c.requires.number, not_zero_bits c.args.coefficient _ (to_z-of_z w128 c.args.coefficient c.ranges.coefficient) c.requires.not_zero),
+    ),
+  ),
 )
 
 pub expand-returns-then-p-q-clause-gains : goal.expand-returns-then-p-q-clause-gains
@@ -53,9 +57,13 @@ expand-returns-then-p-q-clause-wide t c =
 pub expand-expand_after-requires-then-q-p : goal.expand-expand_after-requires-then-q-p
 expand-expand_after-requires-then-q-p t c = (
   search rules,
-  (other_form c.args.self.now.prefix.items c.args.right.now c.args.left.now record { var = 0; exp = 0 } (some_here _ c.if-is_empty-2.ensures) (some_here _ c.if-is_empty.ensures) c.if-q-p.true c.requires.right c.requires.left,
-  (own_form c.args.self.now.prefix.items c.args.right.now record { var = 0; exp = 0 } (some_here _ c.if-is_empty-2.ensures) c.requires.right,
-  (within_bits c.args.coefficient _ (to_z-of_z w128 c.args.coefficient c.ranges.coefficient) c.requires.number, not_zero_bits c.args.coefficient _ (to_z-of_z w128 c.args.coefficient c.ranges.coefficient) c.requires.not_zero))),
+  (
+    other_form c.args.self.now.prefix.items c.args.right.now c.args.left.now record { var = 0; exp = 0 } (some_here _ c.if-is_empty-2.ensures) (some_here _ c.if-is_empty.ensures) c.if-q-p.true c.requires.right c.requires.left,
+    (
+      own_form c.args.self.now.prefix.items c.args.right.now record { var = 0; exp = 0 } (some_here _ c.if-is_empty-2.ensures) c.requires.right,
+      (within_bits c.args.coefficient _ (to_z-of_z w128 c.args.coefficient c.ranges.coefficient) c.requires.number, not_zero_bits c.args.coefficient _ (to_z-of_z w128 c.args.coefficient c.ranges.coefficient) c.requires.not_zero),
+    ),
+  ),
 )
 
 pub expand-returns-then-q-p-clause-gains : goal.expand-returns-then-q-p-clause-gains
@@ -105,11 +113,16 @@ pub expand_shared-expand_after-requires : goal.expand_shared-expand_after-requir
 expand_shared-expand_after-requires t c =
     let f : FitsSigned w128 c.in-Some.coefficient = search rules in
     let e = to_z-of_z w128 c.in-Some.coefficient f in
-    let b = (part_bounds 0 c.args.self.now.prefix.items c.args.p c.args.left.now c.requires.left).0 in
-    (search rules,
-    (shared_form c.args.self.now.prefix.items c.loop-exp.self.prefix.items c.args.p c.args.q c.args.p c.loop-exp.exp c.args.left.now c.loop-exp.invariant.prefix c.requires.left refl (omega arith) (omega arith),
-    (shared_form c.args.self.now.prefix.items c.loop-exp.self.prefix.items c.args.p c.args.q c.args.q c.loop-exp.exp c.args.right.now c.loop-exp.invariant.prefix c.requires.right c.requires.shared (omega arith) (omega arith),
-    (within_bits c.in-Some.coefficient _ e (subst (λ x. unsigned_abs x < 2 ^ 127) (sym c.in-Some.ensures.0) c.in-Some.ensures.1), not_zero_bits c.in-Some.coefficient _ e c.in-Some.ensures.2))))
+    let b = (part_bounds 0 c.args.self.now.prefix.items c.args.p c.args.left.now c.requires.left).0 in (
+      search rules,
+      (
+        shared_form c.args.self.now.prefix.items c.loop-exp.self.prefix.items c.args.p c.args.q c.args.p c.loop-exp.exp c.args.left.now c.loop-exp.invariant.prefix c.requires.left refl (omega arith) (omega arith),
+        (
+          shared_form c.args.self.now.prefix.items c.loop-exp.self.prefix.items c.args.p c.args.q c.args.q c.loop-exp.exp c.args.right.now c.loop-exp.invariant.prefix c.requires.right c.requires.shared (omega arith) (omega arith),
+          (within_bits c.in-Some.coefficient _ e (subst (λ x. unsigned_abs x < 2 ^ 127) (sym c.in-Some.ensures.0) c.in-Some.ensures.1), not_zero_bits c.in-Some.coefficient _ e c.in-Some.ensures.2),
+        ),
+      ),
+    )
 
 pub expand_shared-returns-in-Err-clause-wide : goal.expand_shared-returns-in-Err-clause-wide
 expand_shared-returns-in-Err-clause-wide t c = λ e.

@@ -17,6 +17,7 @@ loop-top-init c = (omega (arith, c.loop-place.invariant.0), c.loop-place.invaria
 pub loop-top-preserved : goal.loop-top-preserved
 loop-top-preserved c =
     let d : Top = record { var = 0; top = 0 } in
-    let b = variable_small (get_or c.args.tops.now c.loop-top.top-index d).var (c.requires c.loop-top.top-index d (omega arith)).0 in
-    (length-set c.loop-top.rows.items _ c.in_ok-row.row ∙ c.loop-top.invariant.0,
-    λ v. reading_more c.loop-top.rows.items c.args.tops.now c.loop-top.top-index (get_or c.args.tops.now c.loop-top.top-index d) c.in_ok-row.row v (omega arith) (own_top c.args.tops.now c.loop-top.top-index d (omega arith)) (omega (arith, c.loop-top.invariant.0)) c.in_ok-row.ensures (c.loop-top.invariant.1 v))
+    let b = variable_small (get_or c.args.tops.now c.loop-top.top-index d).var (c.requires c.loop-top.top-index d (omega arith)).0 in (
+      length-set c.loop-top.rows.items _ c.in_ok-row.row ∙ c.loop-top.invariant.0,
+      λ v. reading_more c.loop-top.rows.items c.args.tops.now c.loop-top.top-index (get_or c.args.tops.now c.loop-top.top-index d) c.in_ok-row.row v (omega arith) (own_top c.args.tops.now c.loop-top.top-index d (omega arith)) (omega (arith, c.loop-top.invariant.0)) c.in_ok-row.ensures (c.loop-top.invariant.1 v),
+    )
