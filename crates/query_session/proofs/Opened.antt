@@ -6,10 +6,11 @@ use Rattle.pres_text.specs.declared.pres_fault.PresFault.{PresFault}
 use Rattle.pres_text.specs.declared.pres_fault.PresFault.TheVariants as fault
 use Rattle.pres_text.specs.File.{IsFile}
 use Rattle.pres_text.specs.FirstFault.{first_fault}
+use Rattle.nil_word.specs.Congruence.{IsConsistent}
 use Rattle.nil_pres.specs.Presented.{Presented}
 use Rattle.query_session.specs.declared.status.Status.{Status}
 use Rattle.query_session.specs.declared.status.Status.TheVariants as s
-use Rattle.query_session.specs.Central.{not_central}
+use Rattle.query_session.specs.Central.{relations_of, not_central}
 use Rattle.query_session.specs.Pieces.{as_line}
 use Rattle.query_session.specs.Statuses.{text_of}
 use Rattle.query_session.specs.Writing.{Ended}
@@ -32,9 +33,9 @@ module _ (a : Asked) where
     told : IsTold a file
     told = subst (λ (o : Option (List ℕ)). IfSome (option_and_then a.contents o) (λ t. file ≡ t)) (sym named) read
 
-    pub HasOpened-read : (r : Result Presented Status) → IfOk r (λ p. IsFile p file) → IfOk r (λ p. not_central p ≡ None) → IfOk r (HasOpened a)
-    HasOpened-read (Ok p) h k = record { file = file; told = told; opened = record { name = name; named = named; is_file = h; central = k } }
-    HasOpened-read (Err e) h k = tt
+    pub HasOpened-read : (r : Result Presented Status) → IfOk r (λ p. IsFile p file) → IfOk r (λ p. not_central p ≡ None) → IfOk r (λ p. IsConsistent (relations_of p) 1) → IfOk r (HasOpened a)
+    HasOpened-read (Ok p) h k j = record { file = file; told = told; opened = record { name = name; named = named; is_file = h; central = k; consistent = j } }
+    HasOpened-read (Err e) h k j = tt
 
     judged : (status : Status) → IsJudged file status → (status ≡ s.Memory) ⊎ IsRefused a file status
     judged status (inl e) = inl e

@@ -18,7 +18,7 @@ spaced (e ∷ es) = 32 ∷ (signed_decimal e ++ spaced es)
 not_zero : (i : ℕ) → (suc i == 0) ≡ false
 not_zero i = grind (arith, nat_tests)
 
-join_with_byte-spaced : (e : ℤ) (es : List ℤ) → join_with_byte 32 (map signed_decimal (e ∷ es)) ≡ signed_decimal e ++ spaced es
+pub join_with_byte-spaced : (e : ℤ) (es : List ℤ) → join_with_byte 32 (map signed_decimal (e ∷ es)) ≡ signed_decimal e ++ spaced es
 join_with_byte-spaced e [] = sym (append-nil (signed_decimal e))
 join_with_byte-spaced e (d ∷ es) = ap (λ (t : List ℕ). signed_decimal e ++ (32 ∷ t)) (join_with_byte-spaced d es)
 

@@ -64,9 +64,9 @@ module _ (a : Asked) (f : Fed) (file taken : List ℕ) (old new : Option (List �
 
   pub wrote_whole : (status : Status) (out : List ℕ) → IsOutput a f file taken status out → Appends old new out → Wrote a f file taken status old new
   wrote_whole status out (refused t r u) w = wrote_refused t out r (refused t r u) w
-  wrote_whole status out (done p k e) w = (out, done p k e, w)
-  wrote_whole status out (source_failed p k e) w = (out, source_failed p k e, w)
-  wrote_whole status out (source_long p front rest k e j l) w = (out, source_long p front rest k e j l, w)
+  wrote_whole status out (done p rs k e a) w = (out, done p rs k e a, w)
+  wrote_whole status out (source_failed p rs k e a) w = (out, source_failed p rs k e a, w)
+  wrote_whole status out (source_long p front rest rs k e j l a) w = (out, source_long p front rest rs k e j l a, w)
 
   wrote_stopped : (status : Status) (out : List ℕ) (stop : Stop) → IsOutput a f file taken status out → IsStopped out old new stop → Wrote a f file taken (stop_status stop) old new
   wrote_stopped status out stop h (failed front rest e w) = (front, record { status = status; whole = out; rest = rest; output = h; split = e }, w)

@@ -2,10 +2,12 @@
 
 ghost use Rattle.std.specs.Prelude.{◌≡◌, None, IfOk, IfErr, option_map};
 ghost use Rattle.pres_text.specs.File.{IsFile};
-ghost use Rattle.query_session.specs.Central.{not_central};
+ghost use Rattle.nil_word.specs.Congruence.{IsConsistent};
+ghost use Rattle.query_session.specs.Central.{relations_of, not_central};
 ghost use Rattle.query_session.specs.Runs.{texts, run_name, asked, HasOpened, HasRefused, IsJudged};
 
 use super::central::first_outside;
+use super::central_laws::central_values;
 use super::status::Status;
 use super::usage_kind::UsageKind;
 use super::words::Words;
@@ -56,8 +58,10 @@ fn presentation_name(words: &Words) -> Option<&str>
 fn read_central(alloc: Global, file: &[u8]) -> Result<Presentation, Status>
     ensures opened { IfOk result (λ p. IsFile p file.now) }
     ensures central { IfOk result (λ p. not_central p ≡ None) }
+    ensures consistent { IfOk result (λ p. IsConsistent (relations_of p) 1) }
     ensures refused { IfErr result (IsJudged file.now) }
 {
+    central_values();
     match pres_text::read(alloc, file) {
         Ok(pres) => match first_outside(&pres) {
             None => Ok(pres),

@@ -4,6 +4,7 @@ ghost use Rattle.std.specs.Prelude.{◌≡◌, ℕ, List};
 ghost use Rattle.nil_io.specs.Causes.{Rose};
 ghost use Rattle.query_session.specs.Runs.{Asked, fed, IsOpened, IsAnswered};
 
+use super::central_laws::right_replies;
 use super::ending::{answer_all, answer_whole};
 use super::status::Status;
 use super::taking::{End, take_all};
@@ -23,6 +24,7 @@ pub(crate) fn answer_queries<S: Source, K: Sink>(
         file result (K.written out.old) (K.written out.new) }
     ensures cause { result ≡ Status.WriteFault → Rose (K.faults out.old) (K.faults out.new) }
 {
+    right_replies();
     let mut bytes = Vec::new(alloc);
     match take_all(queries, &mut bytes) {
         End::Memory => Status::Memory,

@@ -22,7 +22,8 @@ returns-in-Finished-clause-answered g c = λ a file opened. record {
   taken = c.take_all.new.bytes.items;
   took = c.in-Finished.ensures.took;
   wrote = wrote_ended a _ file c.take_all.new.bytes.items _ _ s.Done (replies c.args.pres.now (lines_of c.take_all.new.bytes.items)) c.answer_all.result
-      (done c.args.pres.now opened (c.in-Finished.ensures.finished refl))
+      (done c.args.pres.now (replies c.args.pres.now (lines_of c.take_all.new.bytes.items)) opened (c.in-Finished.ensures.finished refl)
+      (c.right_replies.ensures c.args.pres.now (lines_of c.take_all.new.bytes.items) opened.is_file.lawful opened.central))
       (subst (λ (xs : List ℕ). Ended (replies c.args.pres.now (lines_of xs)) s.Done (g.K.Sink.written c.args.out.now) (g.K.Sink.written c.answer_all.new.out) c.answer_all.result)
       c.deref.ensures.value c.answer_all.ensures.ended);
 }
@@ -32,7 +33,8 @@ returns-in-Failed-clause-answered g c = λ a file opened. record {
   taken = c.take_all.new.bytes.items;
   took = c.in-Failed.ensures.took;
   wrote = wrote_ended a _ file c.take_all.new.bytes.items _ _ s.ReadFault (replies c.args.pres.now (whole_lines c.take_all.new.bytes.items) ++ as_line (text_of s.ReadFault)) c.answer_whole.result
-      (source_failed c.args.pres.now opened (c.in-Failed.ensures.failed refl))
+      (source_failed c.args.pres.now (replies c.args.pres.now (whole_lines c.take_all.new.bytes.items)) opened (c.in-Failed.ensures.failed refl)
+      (c.right_replies.ensures c.args.pres.now (whole_lines c.take_all.new.bytes.items) opened.is_file.lawful opened.central))
       (subst (λ (xs : List ℕ). Ended (replies c.args.pres.now (whole_lines xs) ++ as_line (text_of s.ReadFault)) s.ReadFault (g.K.Sink.written c.args.out.now) (g.K.Sink.written c.answer_whole.new.out) c.answer_whole.result)
       c.deref-in-Failed.ensures.value c.answer_whole.ensures.ended);
 }
@@ -45,7 +47,8 @@ returns-clause-answered g c = λ a file opened.
       taken = c.take_all.new.bytes.items;
       took = c.in-Long.ensures.took;
       wrote = wrote_ended a _ file c.take_all.new.bytes.items _ _ s.LongInput (replies c.args.pres.now (whole_lines front) ++ as_line (text_of s.LongInput)) c.answer_whole-in-Long.result
-          (source_long c.args.pres.now front r.0 opened (c.in-Long.ensures.long refl) r.1 r.2)
+          (source_long c.args.pres.now front r.0 (replies c.args.pres.now (whole_lines front)) opened (c.in-Long.ensures.long refl) r.1 r.2
+          (c.right_replies.ensures c.args.pres.now (whole_lines front) opened.is_file.lawful opened.central))
           (subst (λ (xs : List ℕ). Ended (replies c.args.pres.now (whole_lines xs) ++ as_line (text_of s.LongInput)) s.LongInput (g.K.Sink.written c.args.out.now) (g.K.Sink.written c.answer_whole-in-Long.new.out) c.answer_whole-in-Long.result)
           c.deref-in-Long.ensures.value c.answer_whole-in-Long.ensures.ended);
     }
