@@ -9,3 +9,9 @@ pub mod Whole
 pub mod Saying
 pub mod Presented
 pub mod Written
+pub mod Named
+pub mod Tokens
+pub mod Plain
+pub mod Joined
+pub mod Canonical
+pub mod Again

@@ -75,7 +75,7 @@ words-behind text rest n e r h =
 kept-first : (w : List ℕ) (ws : List (List ℕ)) → 1 ≤ length w → kept (w ∷ ws) ≡ w ∷ kept ws
 kept-first w ws h = let e : nat_le 1 (length w) ≡ true = grind (arith, nat_tests) in rw e refl
 
-words-blank : (b : ℕ) (bs : List ℕ) → is_blank b ≡ true → words (b ∷ bs) ≡ words bs
+pub words-blank : (b : ℕ) (bs : List ℕ) → is_blank b ≡ true → words (b ∷ bs) ≡ words bs
 words-blank b bs h = ap (λ q. kept (cond q ([] ∷ slice_split is_blank bs) (onto_first b (slice_split is_blank bs)))) h
 
 -- what the first word ends at is a blank

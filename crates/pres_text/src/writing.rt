@@ -4,6 +4,7 @@ ghost use Rattle.std.specs.Prelude.{◌≡◌, ◌≤◌, ◌<◌, ◌++◌, len
 ghost use Rattle.std.specs.List.{All};
 ghost use Rattle.nil_pres.specs.Rights.{AreUpTo};
 ghost use Rattle.nil_pres.specs.Presented.{right_side};
+ghost use Rattle.pres_text.specs.File.{IsFile};
 ghost use Rattle.pres_text.specs.Text.{name_of, power_text, right_text, line_text, pairs_text, relations_text, names_text, text_of};
 
 use nil_pres::{Memory, Presentation, Syllable};
@@ -105,8 +106,8 @@ fn put_names(text: &mut String, pres: &Presentation) -> Result<(), Memory>
     Ok(())
 }
 
-/// Writes a presentation as its canonical text.
-pub fn write(alloc: Global, pres: &Presentation) -> Result<String, Memory>
+/// The canonical text of a presentation.
+fn canonical(alloc: Global, pres: &Presentation) -> Result<String, Memory>
     ensures { IfOk result (λ s. string_bytes s ≡ text_of pres.now) }
 {
     let mut text = String::new(alloc);
@@ -115,4 +116,15 @@ pub fn write(alloc: Global, pres: &Presentation) -> Result<String, Memory>
     text.push_str("\n")?;
     put_relations(&mut text, pres)?;
     Ok(text)
+}
+
+/// Writes a presentation as its canonical text.
+pub fn write(alloc: Global, pres: &Presentation) -> Result<String, Memory>
+    ensures text { IfOk result (λ s. string_bytes s ≡ text_of pres.now) }
+    // What is written says what was written.
+    ensures again { IfOk result (λ s. IsFile pres.now (string_bytes s)) }
+{
+    // Each presentation's count tells that it is lawful.
+    let _count = pres.count();
+    canonical(alloc, pres)
 }
