@@ -1,13 +1,13 @@
 -- Polynomials in unique form as lists of contributions: they are what they make, and they do not pass
-use Rattle.std.proofs.Common.{◌≡◌, ◌≢◌, ℕ, zero, suc, ◌+◌, ◌*◌, ◌^◌, ◌<◌, ◌≤◌, Bool, true, false, cond, List, [], ◌∷◌, ◌++◌, length, get_or, take, drop, refl, sym, ap, ◌∙◌, subst, arith, ◌⊎◌, inl, inr}
+use Rattle.std.proofs.Common.{◌≡◌, ◌≢◌, ℕ, zero, suc, ◌+◌, ◌*◌, ◌^◌, ◌<◌, ◌≤◌, false, List, [], ◌∷◌, ◌++◌, length, get_or, take, drop, refl, sym, ap, ◌∙◌, subst, arith, inl, inr}
 use Rattle.std.specs.Prelude.{unsigned_abs, int_div}
-use Rattle.std.proofs.lemmas.Bool.{cases_Bool, false≢true}
+use Rattle.std.proofs.lemmas.Bool.{cases_Bool}
 use Rattle.std.proofs.lemmas.Grind.{take_at_read, common_steps}
 use Rattle.std.proofs.lemmas.Int.{unsigned_abs-mul}
 use Rattle.std.specs.Ordering.{int_eq}
 use Rattle.std.specs.Cmp.{signed_Decides}
 use Rattle.std.specs.declared.cmp.Ordering.TheVariants.{Less}
-use lib.IntN.{ℤ, pos, negsuc, ◌+ℤ◌, ◌-ℤ◌, ◌*ℤ◌, zero-*ℤ, *ℤ-zero, +ℤ_idr}
+use lib.IntN.{ℤ, pos, ◌+ℤ◌, ◌-ℤ◌, ◌*ℤ◌, zero-*ℤ}
 use Rattle.whole.specs.Binomial.{choose}
 use Rattle.whole.proofs.Binomial.{absorb, choose_none}
 use Rattle.whole.proofs.Laws.{Divides, quotient_is}
@@ -19,7 +19,7 @@ use Rattle.binom_poly.specs.Polynomial.{monomial_value, value_of, IsTerm, IsPoly
 use Rattle.binom_poly.specs.Weight.{weight, Passes}
 use Rattle.binom_poly.specs.Times.{prefixed, contribution}
 use Rattle.binom_poly.specs.Sums.{AllMonomials}
-use Rattle.binom_poly.specs.Collected.{collected, with_term, scale_terms, quotient_of, AllDivisible, constant_terms, var_terms}
+use Rattle.binom_poly.specs.Collected.{collected, scale_terms, quotient_of, AllDivisible, constant_terms, var_terms}
 use Rattle.binom_poly.proofs.Unique.{unique_form, before_irrefl, rest_is}
 use Rattle.binom_poly.proofs.Contributing.{fits, passes_first, passes_before}
 use Rattle.binom_poly.proofs.Collecting.{value-collected, polynomial-collected}
