@@ -1,10 +1,11 @@
 //! Reads a query line.
 
-ghost use Rattle.std.specs.Prelude.{◌≡◌, Ok, Err, IfOk, IfErr};
+ghost use Rattle.std.specs.Prelude.{◌≡◌, length, Ok, Err, IfOk, IfErr};
 ghost use Rattle.nil_word.specs.declared.query.Query.{Query};
 ghost use Rattle.word_text.specs.declared.query_fault.QueryFault.{QueryFault};
 ghost use Rattle.word_text.specs.Lines.{ReadsAs, FailsWith};
 ghost use Rattle.word_text.specs.Seen.{Gives, IsMemoryOr};
+ghost use Rattle.word_text.specs.Shaping.{IsShapedQuery};
 
 use super::judging::read_tokens;
 use super::query_fault::QueryFault;
@@ -17,6 +18,7 @@ use std::alloc::Global;
 /// Reads one line: its query, or its first fault from the left.
 pub fn read_query(alloc: Global, pres: &Presentation, line: &[u8]) -> Result<Query, QueryFault>
     ensures read { IfOk result (λ q. ReadsAs pres.now.names line.now q) }
+    ensures shaped { IfOk result (λ q. IsShapedQuery (length pres.now.names) q) }
     ensures fault { IfErr result (λ f. IsMemoryOr f (FailsWith pres.now.names line.now f)) }
     // The only query of a line is read, and the first fault named, unless memory runs out.
     ensures only { (q : Query) → ReadsAs pres.now.names line.now q → Gives result (Ok q) }
