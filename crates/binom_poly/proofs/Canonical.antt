@@ -49,7 +49,7 @@ unfolding weight IsPolynomialFrom
 weight-later ms t [] l h = rw (other ms t.monomial l) refl
 weight-later ms t (u ∷ us) l h = rw (other ms t.monomial l) (let e = weight-later ms u us (monomial_cmp_total.trans ms t.monomial u.monomial l h.1) h.2 in omega arith)
 
-weight-rest : (t : Term) (ts : List Term) → IsPolynomialFrom t ts → weight t.monomial ts ≡ 0
+pub weight-rest : (t : Term) (ts : List Term) → IsPolynomialFrom t ts → weight t.monomial ts ≡ 0
 unfolding weight IsPolynomialFrom
 weight-rest t [] h = refl
 weight-rest t (u ∷ us) h = weight-later t.monomial u us h.1 h.2
