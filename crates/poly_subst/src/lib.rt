@@ -8,6 +8,8 @@ mod power_row;
 mod renaming;
 mod stepping;
 mod substituting;
+#[cfg(test)]
+mod tests;
 
 pub use assign::Assign;
 pub use choosing::choose;

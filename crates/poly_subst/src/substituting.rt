@@ -12,7 +12,7 @@ ghost use Rattle.poly_subst.specs.Places.{IsPlace};
 use crate::assign::Assign;
 use crate::exponents::exponent;
 use crate::power_row::PowerRow;
-use binom_poly::{Monomial, Part, Poly, PolyFault, Term, add, constant, mul, zero};
+use binom_poly::{Monomial, Part, Poly, PolyFault, RunningSum, Term, constant, mul};
 use std::alloc::Global;
 
 // The greatest exponent of a variable: 0 where it does not occur.
@@ -145,16 +145,19 @@ pub fn substitute(alloc: Global, p: &Poly, list: &[Assign]) -> Result<Poly, Poly
         Ok(rows) => rows,
         Err(fault) => return Err(fault),
     };
-    let mut sum = zero(alloc);
+    let mut sum = RunningSum::new(alloc);
     for term in p.terms() {
         let expansion = match expand(alloc, list, rows.as_slice(), term) {
             Ok(expansion) => expansion,
             Err(fault) => return Err(fault),
         };
-        match add(alloc, &sum, &expansion) {
-            Ok(next) => sum = next,
+        match sum.add(alloc, &expansion) {
+            Ok(()) => {}
             Err(fault) => return Err(fault),
         }
     }
-    Ok(sum)
+    match sum.into_poly(alloc) {
+        Ok(q) => Ok(q),
+        Err(_) => Err(PolyFault::Memory),
+    }
 }
