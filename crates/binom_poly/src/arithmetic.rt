@@ -90,7 +90,10 @@ pub fn scale(alloc: Global, p: &Poly, c: i128) -> Result<Poly, PolyFault>
         let Ok(monomial) = term.monomial.copy(alloc) else {
             return Err(PolyFault::Memory);
         };
-        match multiples.push(Term { monomial, coefficient }) {
+        match multiples.push(Term {
+            monomial,
+            coefficient,
+        }) {
             Ok(()) => {}
             Err(_) => return Err(PolyFault::Memory),
         }
@@ -110,7 +113,10 @@ pub fn divide_exact(alloc: Global, p: &Poly, m: u32) -> Result<Poly, Memory>
     for term in terms {
         let monomial = term.monomial.copy(alloc)?;
         let coefficient = term.coefficient / m as i128;
-        quotients.push(Term { monomial, coefficient })?;
+        quotients.push(Term {
+            monomial,
+            coefficient,
+        })?;
     }
     Ok(Poly::of(quotients))
 }

@@ -30,10 +30,8 @@ fn times_factors(number: i128, parts: &[Part], rows: &Rows) -> Option<i128>
     requires covered { IsCoveredMonomial rows.now parts.now }
     requires factors { monomial_value (value_at rows.now) parts.now ≢ pos 0 }
     requires number { unsigned_abs number < 2 ^ 127 }
-    ensures {
-        let value = number *ℤ monomial_value (value_at rows.now) parts.now in
-        MatchOption result (2 ^ 127 ≤ unsigned_abs value) (λ product. (product ≡ value) × (unsigned_abs value < 2 ^ 127))
-    }
+    ensures { let value = number *ℤ monomial_value (value_at rows.now) parts.now in
+        MatchOption result (2 ^ 127 ≤ unsigned_abs value) (λ product. (product ≡ value) × (unsigned_abs value < 2 ^ 127)) }
 {
     let mut product = number;
     for part in parts {
@@ -49,10 +47,8 @@ fn times_factors(number: i128, parts: &[Part], rows: &Rows) -> Option<i128>
 fn term_value(term: &Term, rows: &Rows) -> Option<i128>
     requires covered { IsCoveredMonomial rows.now term.now.monomial }
     requires number { unsigned_abs term.now.coefficient < 2 ^ 127 }
-    ensures {
-        let value = term.now.coefficient *ℤ monomial_value (value_at rows.now) term.now.monomial in
-        MatchOption result (2 ^ 127 ≤ unsigned_abs value) (λ product. (product ≡ value) × (unsigned_abs value < 2 ^ 127))
-    }
+    ensures { let value = term.now.coefficient *ℤ monomial_value (value_at rows.now) term.now.monomial in
+        MatchOption result (2 ^ 127 ≤ unsigned_abs value) (λ product. (product ≡ value) × (unsigned_abs value < 2 ^ 127)) }
 {
     if has_zero(term.monomial.parts(), rows) {
         return Some(0);

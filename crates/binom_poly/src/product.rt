@@ -36,10 +36,8 @@ fn summand_coefficient(coefficient: i128, a: u32, b: u32, k: u32) -> Option<i128
     requires to { k ≤ a + b }
     requires small { a + b ≤ 1000 }
     requires not_zero { coefficient ≢ pos 0 }
-    ensures {
-        let value = coefficient *ℤ pos (ways k a * ways a (k - b)) in
-        MatchOption result (2 ^ 127 ≤ unsigned_abs value) (λ product. (product ≡ value) × (unsigned_abs value < 2 ^ 127) × (product ≢ pos 0))
-    }
+    ensures { let value = coefficient *ℤ pos (ways k a * ways a (k - b)) in
+        MatchOption result (2 ^ 127 ≤ unsigned_abs value) (λ product. (product ≡ value) × (unsigned_abs value < 2 ^ 127) × (product ≢ pos 0)) }
 {
     match product_coefficient(a, b, k) {
         Ok(factor) => times(coefficient, factor as i128),
@@ -56,7 +54,12 @@ pub struct Product {
 
 impl Product {
     // Adds the contribution of the parts so far and the rest.
-    fn contribute(&mut self, alloc: Global, coefficient: i128, rest: &[Part]) -> Result<(), PolyFault>
+    fn contribute(
+        &mut self,
+        alloc: Global,
+        coefficient: i128,
+        rest: &[Part],
+    ) -> Result<(), PolyFault>
         requires form { IsMonomial (self.old.prefix.items ++ rest.now) }
         requires number { unsigned_abs coefficient < 2 ^ 127 }
         ensures gains { OnOk result (Gains self.old.sums self.new.sums (contribution (self.old.prefix.items ++ rest.now) coefficient ∷ [])) }
@@ -81,7 +84,13 @@ impl Product {
 
     // Adds the contributions of the product of two monomials, each after the parts so far and times the coefficient.
     #[cycle(expand)]
-    fn expand(&mut self, alloc: Global, coefficient: i128, left: &[Part], right: &[Part]) -> Result<(), PolyFault>
+    fn expand(
+        &mut self,
+        alloc: Global,
+        coefficient: i128,
+        left: &[Part],
+        right: &[Part],
+    ) -> Result<(), PolyFault>
         requires left { IsMonomial (self.old.prefix.items ++ left.now) }
         requires right { IsMonomial (self.old.prefix.items ++ right.now) }
         requires number { unsigned_abs coefficient < 2 ^ 127 }
@@ -109,7 +118,14 @@ impl Product {
 
     // The same after one part more.
     #[cycle(expand)]
-    fn expand_after(&mut self, alloc: Global, part: Part, coefficient: i128, left: &[Part], right: &[Part]) -> Result<(), PolyFault>
+    fn expand_after(
+        &mut self,
+        alloc: Global,
+        part: Part,
+        coefficient: i128,
+        left: &[Part],
+        right: &[Part],
+    ) -> Result<(), PolyFault>
         requires left { IsMonomial (self.old.prefix.items ++ part ∷ left.now) }
         requires right { IsMonomial (self.old.prefix.items ++ part ∷ right.now) }
         requires number { unsigned_abs coefficient < 2 ^ 127 }
@@ -132,7 +148,15 @@ impl Product {
 
     // The same where both monomials begin with a part of one variable: an exponent for each summand.
     #[cycle(expand)]
-    fn expand_shared(&mut self, alloc: Global, p: Part, q: Part, coefficient: i128, left: &[Part], right: &[Part]) -> Result<(), PolyFault>
+    fn expand_shared(
+        &mut self,
+        alloc: Global,
+        p: Part,
+        q: Part,
+        coefficient: i128,
+        left: &[Part],
+        right: &[Part],
+    ) -> Result<(), PolyFault>
         requires left { IsMonomial (self.old.prefix.items ++ p ∷ left.now) }
         requires right { IsMonomial (self.old.prefix.items ++ q ∷ right.now) }
         requires shared { p.var ≡ q.var }
@@ -193,7 +217,12 @@ impl Product {
     }
 
     /// Adds the contributions of the product of each of these and each of those.
-    pub fn add_all(&mut self, alloc: Global, these: &[Term], those: &[Term]) -> Result<(), PolyFault>
+    pub fn add_all(
+        &mut self,
+        alloc: Global,
+        these: &[Term],
+        those: &[Term],
+    ) -> Result<(), PolyFault>
         requires prefix { self.old.prefix.items ≡ [] }
         requires left { All IsTerm these.now }
         requires right { All IsTerm those.now }

@@ -1,11 +1,11 @@
 -- The right sides of a presentation are ascending factors above their pair.
-use Rattle.std.proofs.Common.{◌≡◌, ℕ, ◌<◌, ◌≤◌, Bool, true, nat_le, nat_lt, ◌&&◌, if◌then◌else◌, List, [], ◌∷◌, length, refl, sym, ◌∙◌, ap, subst}
+use Rattle.std.proofs.Common.{◌≡◌, ℕ, ◌<◌, ◌≤◌, Bool, true, nat_le, nat_lt, ◌&&◌, if◌then◌else◌, List, [], ◌∷◌, length, sym, ◌∙◌, ap, subst}
 use Rattle.std.proofs.lemmas.Bool.{le-leb, lt-ltb}
-use Rattle.hall_law.specs.Plan.{Factor, word_of, IsAscending}
+use Rattle.hall_law.specs.Plan.{IsAscending}
 use Rattle.nil_pres.specs.declared.syllable.Syllable.{Syllable}
 use Rattle.nil_pres.specs.Rights.{IsRight}
 use Rattle.nil_pres.specs.Presented.{Presented, IsPresented, right_side}
-use Rattle.nil_pres.specs.Relations.{factors_of, is_pair, between, relations_of}
+use Rattle.nil_pres.specs.Relations.{factors_of, is_pair, between}
 
 IsAscending-factors_of : (low high : ℕ) (right : List Syllable) → IsRight low high right → IsAscending low high (factors_of right)
 IsAscending-factors_of low high [] h = tt

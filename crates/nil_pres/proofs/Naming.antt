@@ -12,7 +12,7 @@ use Rattle.std.specs.declared.alloc.Global.{Global}
 use Rattle.std.specs.declared.hash.FoldHasher.{FoldHasher}
 use Rattle.std.specs.declared.hash.BuildHasherDefault.{BuildHasherDefault}
 use Rattle.indexmap.specs.IndexSet.{IndexSet, insert_key}
-use Rattle.nil_pres.specs.Views.{row_of, rows_of, view_of}
+use Rattle.nil_pres.specs.Views.{row_of, view_of}
 use Rattle.nil_pres.specs.declared.builder.Builder.TheInside.{Inside}
 use Rattle.nil_pres.specs.declared.syllable.Syllable.{Syllable}
 use Rattle.nil_pres.specs.Rights.{IsRight}

@@ -1,9 +1,8 @@
 -- Right sides without a fault.
-use Rattle.std.proofs.Common.{All, ◌≡◌, ◌≢◌, ℕ, zero, suc, ◌+◌, ◌-◌, ◌^◌, ◌<◌, ◌≤◌, ◌==◌, Bool, true, false, ℤ, pos, negsuc, ◌≤ℤ◌, unsigned_abs, List, [], ◌∷◌, refl, arith}
-use Rattle.std.proofs.lemmas.Int.{ints}
+use Rattle.std.proofs.Common.{All, ℕ, ◌<◌, ◌≤◌, List, [], ◌∷◌, arith}
 use Rattle.std.proofs.lemmas.List.Elements.{All-nil, All-cons, All-weaker}
 use Rattle.nil_pres.specs.declared.syllable.Syllable.{Syllable}
-use Rattle.nil_pres.specs.Rights.{is_lowest, is_zero, IsRight}
+use Rattle.nil_pres.specs.Rights.{IsRight}
 
 -- more generators may stand in a right side
 pub IsRight-higher : (low high more : ℕ) (right : List Syllable) → high ≤ more → IsRight low high right → IsRight low more right

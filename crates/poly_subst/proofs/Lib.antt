@@ -5,3 +5,7 @@ pub mod Differences
 pub mod Moving
 pub mod Vanishing
 pub mod Exactness
+pub mod Placing
+pub mod Expansion
+pub mod Running
+pub mod Greatest

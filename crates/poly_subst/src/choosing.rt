@@ -25,8 +25,8 @@ fn lowered(alloc: Global, p: &Poly, r: u32) -> Result<Poly, PolyFault>
     add(alloc, p, &shift)
 }
 
-// The step from `p` over `r` to `p` over `r + 1`. Its division is exact.
-fn next_choice(alloc: Global, p: &Poly, chosen: &Poly, r: u32) -> Result<Poly, PolyFault>
+/// The step from `p` over `r` to `p` over `r + 1`. Its division is exact.
+pub fn next_choice(alloc: Global, p: &Poly, chosen: &Poly, r: u32) -> Result<Poly, PolyFault>
     requires small { r < 1000 }
     requires chosen { chosen.now ≡ choose_of p.now r }
     requires value { (a : ℕ → ℤ) → value_of a chosen.now ≡ choose (value_of a p.now) r }

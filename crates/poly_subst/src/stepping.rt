@@ -7,6 +7,7 @@ ghost use Rattle.binom_poly.specs.Polynomial.{value_of};
 ghost use Rattle.binom_poly.specs.declared.part.Part.{Part};
 ghost use Rattle.poly_subst.specs.Steps.{raised, summed, bump};
 
+use crate::exponents::exponent;
 use binom_poly::{Monomial, Part, Poly, PolyFault, Term};
 use std::alloc::Global;
 
@@ -22,18 +23,6 @@ fn parts_through(parts: &[Part], t: u32) -> usize
     ensures { result ≡ length (take_while (λ part. nat_le part.var t) parts.now) }
 {
     parts.iter().take_while(|part| part.var <= t).count()
-}
-
-// The exponent of a variable: 0 where it does not occur.
-fn exponent(parts: &[Part], t: u32) -> u32
-    ensures { result ≡ exponent_of parts.now t }
-{
-    for part in parts {
-        if part.var == t {
-            return part.exp;
-        }
-    }
-    0
 }
 
 // The monomial of the parts before, a part and the parts after.

@@ -55,17 +55,6 @@ first_failed_fine (Some k) later e m = tt
 first_failed_fine None None e m = m
 first_failed_fine None (Some k) e m = tt
 
-pub line_failed : (o later : Option PresFault) (e : PresFault) → IfSome o (λ f. Gives (failed e) (failed f)) → IfNone o (e ≡ Memory)
-    → IfSome (first_of o later) (λ f. Gives (failed e) (failed f))
-line_failed (Some f) later e h m = h
-line_failed None None e h m = tt
-line_failed None (Some f) e h m = subst (λ (x : PresFault). Gives (failed x) (failed f)) (sym m) tt
-
-pub line_failed_fine : (o later : Option PresFault) (e : PresFault) → IfNone o (e ≡ Memory) → IfNone (first_of o later) (e ≡ Memory)
-line_failed_fine (Some f) later e m = tt
-line_failed_fine None None e m = m
-line_failed_fine None (Some f) e m = tt
-
 -- outcomes of the whole reader
 pub memory_gives : {A : Type 0} (f : PresFault) (o : Result A PresFault) → f ≡ Memory → Gives (Err f) o
 memory_gives f o h = subst (λ (x : PresFault). Gives (Err x) o) (sym h) tt

@@ -8,3 +8,4 @@ pub mod Drafts
 pub mod Whole
 pub mod Saying
 pub mod Presented
+pub mod Written

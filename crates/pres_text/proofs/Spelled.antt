@@ -37,32 +37,13 @@ star_by-some : (ks more : List Kind) → star_by ks ≡ Some more → ks ≡ Sta
 star_by-some (Star ∷ ks) more h = cc
 star_by-some _ more h = cc
 
-star_by-none : (s : Syllable) (ks : List Kind) → 1 ≤ length ks → star_by ks ≡ None → behind (Some (s, ks)) ≡ None
-star_by-none s [] l h = absurd (omega arith)
-star_by-none s (Star ∷ ks) l h = cc
-star_by-none s _ l h = refl
-
--- the loop's four cases: no power, the last one, one more, and one before something else
-pub no_power : (done : List Syllable) (ks : List Kind) → powers_seen (power_by ks) ≡ None → ahead done (option_map syllables_of (powers_by ks)) ≡ None
-no_power done ks h = ap (ahead done) (powers_by-front ks ∙ ap behind h)
-
-pub last_power : (done : List Syllable) (s : Syllable) (ks : List Kind) → powers_seen (power_by ks) ≡ Some (s, []) → ahead done (option_map syllables_of (powers_by ks)) ≡ Some (done ++ s ∷ [])
-last_power done s ks h = ap (ahead done) (powers_by-front ks ∙ ap behind h)
+-- one power more in the loop
 
 pub one_more : (done : List Syllable) (s : Syllable) (ks next more : List Kind) → powers_seen (power_by ks) ≡ Some (s, next) → star_by next ≡ Some more
     → ahead done (option_map syllables_of (powers_by ks)) ≡ ahead (done ++ s ∷ []) (option_map syllables_of (powers_by more))
 one_more done s ks next more h star =
     ap (ahead done) (powers_by-front ks ∙ ap behind h ∙ ap (λ (n : List Kind). behind (Some (s, n))) (star_by-some next more star))
     ∙ ahead-cons done s (option_map syllables_of (powers_by more))
-
-pub stopped : (done : List Syllable) (s : Syllable) (ks next : List Kind) → powers_seen (power_by ks) ≡ Some (s, next) → 1 ≤ length next → star_by next ≡ None
-    → ahead done (option_map syllables_of (powers_by ks)) ≡ None
-stopped done s ks next h l star = ap (ahead done) (powers_by-front ks ∙ ap behind h ∙ star_by-none s next l star)
-
--- a right side that isn't the one token 1
-pub right_by-powers : (ks : List Kind) → ((n : Option ℤ) → ks ≡ Integer true n ∷ [] → ⊥) → right_by ks ≡ powers_by ks
-right_by-powers (Integer true n ∷ []) h = absurd (h n refl)
-right_by-powers _ h = refl
 
 right-clipped : (j i : ℕ) (ps : Option (List Power))
     → option_map spelled_clipped (option_map (λ qs. record { above = j; below = i; right = qs }) ps) ≡ option_map (λ ss. record { above = j; below = i; right = ss }) (option_map syllables_of ps)

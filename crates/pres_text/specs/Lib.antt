@@ -5,3 +5,4 @@ pub mod File
 pub mod Spelling
 pub mod Seen
 pub mod Reading
+pub mod Text

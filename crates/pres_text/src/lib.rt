@@ -11,7 +11,12 @@ mod relation_words;
 mod relations;
 mod spelling;
 mod words;
+mod writing;
 
 pub use file_kind::FileKind;
 pub use pres_fault::PresFault;
 pub use reading::read;
+pub use writing::write;
+
+#[cfg(test)]
+mod tests;

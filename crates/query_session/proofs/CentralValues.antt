@@ -1,14 +1,11 @@
 -- Over a central presentation the value of factors stands for their word.
-use Rattle.std.proofs.Common.{◌≡◌, ℕ, zero, suc, ◌+◌, ◌-◌, ◌<◌, ◌≤◌, Bool, true, false, if◌then◌else◌, ℤ, pos, ◌+ℤ◌, ◌*ℤ◌, List, [], ◌∷◌, ◌++◌, All, length, map, flat_map, set, get_or, replicate, Option, Some, None, refl, sym, ◌∙◌, ap, subst, arith, append_assoc, append-nil}
+use Rattle.std.proofs.Common.{◌≡◌, ℕ, zero, suc, ◌+◌, ◌-◌, ◌<◌, ◌≤◌, Bool, true, false, if◌then◌else◌, ℤ, pos, ◌+ℤ◌, ◌*ℤ◌, List, [], ◌∷◌, ◌++◌, length, map, flat_map, set, replicate, Option, Some, None, refl, sym, ◌∙◌, ap, subst, arith, append_assoc, append-nil}
 use Rattle.std.proofs.lemmas.Int.{ints}
 use Rattle.std.proofs.lemmas.Bool.{le-leb, lt-ltb}
 use Rattle.std.proofs.lemmas.List.{set-get_or}
-use Rattle.std.proofs.lemmas.List.Elements.{All-head, All-tail}
 use Rattle.whole.specs.Sums.{sum_from}
 use Rattle.nil_word.specs.declared.letter.Letter.{Letter}
 use Rattle.nil_word.specs.Words.{power}
-use Rattle.nil_word.specs.Congruence.{Relations}
-use Rattle.nil_word.specs.Entries.{balance}
 use Rattle.nil_word.specs.Exponents.{entry, numbers, count}
 use Rattle.hall_law.specs.Quadratic.{quadratic_entry, quadratic}
 use Rattle.hall_law.specs.Table.{zeros}

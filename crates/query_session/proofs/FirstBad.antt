@@ -1,5 +1,5 @@
 -- The first pair outside the central form.
-use Rattle.std.proofs.Common.{◌≡◌, ℕ, zero, suc, ◌+◌, ◌-◌, ◌<◌, ◌≤◌, Bool, true, false, if◌then◌else◌, List, [], ◌∷◌, ◌++◌, map, flat_map, Option, Some, None, refl, sym, ◌∙◌, ap, arith}
+use Rattle.std.proofs.Common.{◌≡◌, ℕ, ◌+◌, ◌-◌, ◌<◌, Bool, true, false, if◌then◌else◌, List, [], ◌∷◌, ◌++◌, map, flat_map, Option, Some, None, refl, sym, ◌∙◌, ap}
 use Rattle.nil_word.specs.Exponents.{numbers}
 use Rattle.nil_pres.specs.Presented.{Presented, right_side}
 use Rattle.query_session.specs.Central.{row, are_central, first_bad}

@@ -1,16 +1,15 @@
 -- A list whose terms are those of another and zeros.
-use Rattle.std.proofs.Common.{◌≡◌, ◌≢◌, ℕ, zero, suc, ◌+◌, ◌-◌, ◌<◌, ◌≤◌, ◌==◌, ltb, if◌then◌else◌, Bool, true, false, nat_le, ℤ, pos, ◌+ℤ◌, ◌*ℤ◌, unsigned_abs, List, [], ◌∷◌, ◌++◌, length, map, flat_map, sum_by, set, get_or, replicate, Option, Some, None, refl, sym, ◌∙◌, ap, inl, inr, arith, get_or-set_other, get_or-set_same}
+use Rattle.std.proofs.Common.{◌≡◌, ◌≢◌, ℕ, zero, suc, ◌+◌, ◌-◌, ◌<◌, ◌≤◌, if◌then◌else◌, Bool, nat_le, ℤ, pos, ◌+ℤ◌, ◌*ℤ◌, unsigned_abs, List, [], ◌∷◌, ◌++◌, length, map, flat_map, sum_by, get_or, replicate, Some, None, refl, sym, ◌∙◌, ap, inl, inr, arith, get_or-set_other, get_or-set_same}
 use Rattle.std.proofs.lemmas.Int.{ints}
-use Rattle.std.proofs.lemmas.Bool.{cases_lt}
 use Rattle.std.proofs.lemmas.Bool.Decides.{eqb_tells}
 use Rattle.std.proofs.Math.IntN.{*ℤ-zero}
-use Rattle.std.proofs.lemmas.List.{length-replicate, get_or-replicate, append-nil}
+use Rattle.std.proofs.lemmas.List.{length-replicate, append-nil}
 use Rattle.std.proofs.lemmas.List.Sums.{sum_by-append, sum_by-cons}
 use Rattle.std.proofs.Math.Nat.{eq-or-lt_of_le}
 use Rattle.nil_word.specs.Exponents.{entry, numbers}
 use Rattle.nil_pres.specs.Presented.{Presented, right_side}
 use Rattle.query_session.specs.declared.factor.Factor.{Factor}
-use Rattle.query_session.specs.Central.{exponent, summand, terms, total, generators, greatest}
+use Rattle.query_session.specs.Central.{exponent, summand, terms, total, greatest}
 use Rattle.query_session.specs.Value.{single}
 use Rattle.query_session.specs.Steps.{settled, own_entry, step_summand, step_terms}
 use Rattle.query_session.proofs.Magnitudes.{settled-total}

@@ -1,5 +1,5 @@
 -- Products entry by entry, and factors one after another.
-use Rattle.std.proofs.Common.{◌≡◌, ℕ, zero, suc, ◌+◌, ◌-◌, ◌<◌, ◌≤◌, Bool, true, false, nat_le, if◌then◌else◌, ℤ, pos, unsigned_abs, List, [], ◌∷◌, ◌++◌, length, map, sum_by, set, take, drop, get_or, Option, Some, None, refl, sym, ◌∙◌, ap, arith, length-set}
+use Rattle.std.proofs.Common.{◌≡◌, ℕ, zero, suc, ◌+◌, ◌-◌, ◌<◌, ◌≤◌, Bool, true, false, nat_le, if◌then◌else◌, ℤ, pos, unsigned_abs, List, [], ◌∷◌, ◌++◌, length, map, sum_by, set, take, drop, get_or, Some, None, refl, sym, ◌∙◌, ap, arith, length-set}
 use Rattle.std.proofs.lemmas.List.{length-map, map-append, take_more_set, drop_more}
 use Rattle.std.specs.List.{list_all}
 use Rattle.nil_word.specs.Exponents.{numbers}

@@ -31,6 +31,7 @@ items_tokens-last es e =
     both : (xs : List Expr) → map item_tokens (map written (xs ++ e ∷ [])) ≡ map item_tokens (map written xs) ++ item_tokens (written e) ∷ []
     both [] = refl
     both (x ∷ xs) = ap (λ ys. item_tokens (written x) ∷ ys) (both xs)
+
     lengths : (xs : List Expr) → length (map item_tokens (map written xs)) ≡ length xs
     lengths [] = refl
     lengths (x ∷ xs) = ap suc (lengths xs)

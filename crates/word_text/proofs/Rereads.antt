@@ -126,7 +126,7 @@ text_reads names q w m =
     let fair : list_all is_fair (kinds (query_word names) text) ≡ true = ap (list_all is_fair) cut ∙ w.spelled.fair in
     let open_brackets : most_open_from 0 (kinds (query_word names) text) ≤ 200 = subst (λ x. most_open_from 0 x ≤ 200) (sym cut) m in
     let decided : verdict (length text) (query_tokens names text) ≡ Ok q =
-        fair_verdict start 0 false (length text) (query_tokens names text) q (line_accepted (kinds (query_word names) text) q line) fair open_brackets in
+    fair_verdict start 0 false (length text) (query_tokens names text) q (line_accepted (kinds (query_word names) text) q line) fair open_brackets in
     says q (not_silent names text q (is_silent text) refl line) (subst (Finds (query_tokens names text) (length text)) decided (verdict_finds (length text) (query_tokens names text)))
 
 -- a written query reads as itself

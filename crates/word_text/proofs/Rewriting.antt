@@ -104,9 +104,10 @@ AllSound names (e ∷ es) = IsSound names e (written e) × AllSound names es
 all_sound : (names : List (List ℕ)) (n : ℕ) (ys : List ((e : Expr) × Sound names n e)) → list_all (λ b. b) (map (is_shaped n) (map (λ e. e.0) ys)) ≡ true
     → AllSound names (map (λ e. e.0) ys)
 all_sound names n [] h = tt
-all_sound names n (y ∷ ys) h =
-    (y.1 (left_of (is_shaped n y.0) (list_all (λ b. b) (map (is_shaped n) (map (λ e. e.0) ys))) h),
-    all_sound names n ys (right_of (is_shaped n y.0) (list_all (λ b. b) (map (is_shaped n) (map (λ e. e.0) ys))) h))
+all_sound names n (y ∷ ys) h = (
+  y.1 (left_of (is_shaped n y.0) (list_all (λ b. b) (map (is_shaped n) (map (λ e. e.0) ys))) h),
+  all_sound names n ys (right_of (is_shaped n y.0) (list_all (λ b. b) (map (is_shaped n) (map (λ e. e.0) ys))) h),
+)
 
 abbrev items_tokens : List Expr → List Kind
 items_tokens es = joined_by_star (map item_tokens (map written es))
@@ -172,12 +173,14 @@ conjugate_sound names u v a b s t = record {
 commutator_sound : (names : List (List ℕ)) (u v : Expr) (a b : Written) → IsSound names u a → IsSound names v b
     → IsSound names (Comm u v) (record { shape = shape.Atom; tokens = k.SquareOpen ∷ (a.tokens ++ k.Comma ∷ (b.tokens ++ k.SquareClose ∷ [])) })
 commutator_sound names u v a b s t = record {
-  reads = λ rest. (square ((a.tokens ++ k.Comma ∷ (b.tokens ++ k.SquareClose ∷ [])) ++ rest) (b.tokens ++ k.SquareClose ∷ rest) rest u v
-      (subst (λ x. IsExpr x (k.Comma ∷ (b.tokens ++ k.SquareClose ∷ rest)) u)
-      (sym (append_assoc a.tokens (k.Comma ∷ (b.tokens ++ k.SquareClose ∷ [])) rest ∙ ap (λ x. a.tokens ++ k.Comma ∷ x) (append_assoc b.tokens (k.SquareClose ∷ []) rest)))
-      (reads_expr a.shape a.tokens u s.reads (k.Comma ∷ (b.tokens ++ k.SquareClose ∷ rest))))
-      (reads_expr b.shape b.tokens v t.reads (k.SquareClose ∷ rest)),
-      refl);
+  reads = λ rest. (
+    square ((a.tokens ++ k.Comma ∷ (b.tokens ++ k.SquareClose ∷ [])) ++ rest) (b.tokens ++ k.SquareClose ∷ rest) rest u v
+        (subst (λ x. IsExpr x (k.Comma ∷ (b.tokens ++ k.SquareClose ∷ rest)) u)
+        (sym (append_assoc a.tokens (k.Comma ∷ (b.tokens ++ k.SquareClose ∷ [])) rest ∙ ap (λ x. a.tokens ++ k.Comma ∷ x) (append_assoc b.tokens (k.SquareClose ∷ []) rest)))
+        (reads_expr a.shape a.tokens u s.reads (k.Comma ∷ (b.tokens ++ k.SquareClose ∷ rest))))
+        (reads_expr b.shape b.tokens v t.reads (k.SquareClose ∷ rest)),
+    refl,
+  );
   spelled = spelled_mark names k.SquareOpen (a.tokens ++ k.Comma ∷ (b.tokens ++ k.SquareClose ∷ [])) (mark_square_open names)
       (spelled_then names a.tokens k.Comma (b.tokens ++ k.SquareClose ∷ []) s.spelled (mark_comma names)
       (spelled_then names b.tokens k.SquareClose [] t.spelled (mark_square_close names) (spelled_nil names)));

@@ -83,6 +83,7 @@ fair-append (x ∷ a) b e f = both_true (is_fair x) (list_all is_fair (a ++ b)) 
     first : (p q : Bool) → (p && q) ≡ true → p ≡ true
     first true q h = refl
     first false q h = h
+
     second : (p q : Bool) → (p && q) ≡ true → q ≡ true
     second true q h = h
     second false q h = cc
@@ -108,10 +109,10 @@ pub spelled_then : (names : List (List ℕ)) (a : List Kind) (k : Kind) (b : Lis
 spelled_then names a k b s m t = record {
   cuts = λ rest h.
       ap (λ x. kinds (query_word names) (x ++ rest)) (flat_map-append (kind_text names) a (k ∷ b))
-          ∙ ap (kinds (query_word names)) (append_assoc (text_of names a) (text_of names (k ∷ b)) rest)
-          ∙ s.cuts (text_of names (k ∷ b) ++ rest) (ap (prefix_len is_name_byte) (append_assoc (kind_text names k) (text_of names b) rest) ∙ m.stops (text_of names b ++ rest))
-          ∙ ap (λ x. a ++ x) (cuts_first names k b rest m.cut (t.cuts rest h))
-          ∙ sym (append_assoc a (k ∷ b) (kinds (query_word names) rest));
+      ∙ ap (kinds (query_word names)) (append_assoc (text_of names a) (text_of names (k ∷ b)) rest)
+      ∙ s.cuts (text_of names (k ∷ b) ++ rest) (ap (prefix_len is_name_byte) (append_assoc (kind_text names k) (text_of names b) rest) ∙ m.stops (text_of names b ++ rest))
+      ∙ ap (λ x. a ++ x) (cuts_first names k b rest m.cut (t.cuts rest h))
+      ∙ sym (append_assoc a (k ∷ b) (kinds (query_word names) rest));
   fair = fair-append a (k ∷ b) s.fair (both_true (is_fair k) (list_all is_fair b) m.fair t.fair);
 }
 
@@ -132,8 +133,8 @@ pub spelled_name : (names : List (List ℕ)) (g : ℕ) → IsWord names g → Is
 spelled_name names g w = record {
   cuts = λ rest h.
       ap (λ t. kinds (query_word names) (t ++ rest)) (append-nil (get_or names (g - 1) []) ∙ w.text)
-          ∙ kinds-word (query_word names) w.first w.others rest w.letter w.bytes h
-          ∙ ap (λ x. x ∷ kinds (query_word names) rest) w.meaning;
+      ∙ kinds-word (query_word names) w.first w.others rest w.letter w.bytes h
+      ∙ ap (λ x. x ∷ kinds (query_word names) rest) w.meaning;
   fair = both_true (nat_le 1 g) true w.counted refl;
 }
 
@@ -149,7 +150,7 @@ pub spelled_integer : (names : List (List ℕ)) (e : ℤ) → unsigned_abs e < 2
 spelled_integer names e h = record {
   cuts = λ rest s.
       ap (λ t. kinds (query_word names) (t ++ rest)) (append-nil (kind_text names (k.Integer (int_eq e (pos 1)) (Some e))))
-          ∙ kinds-signed (query_word names) e rest h (no_digits rest s);
+      ∙ kinds-signed (query_word names) e rest h (no_digits rest s);
   fair = refl;
 }
 

@@ -70,7 +70,11 @@ fn push(tokens: &mut Vec<Kind>, kind: Kind) -> Result<(), Memory>
 fn push_star(tokens: &mut Vec<Kind>, place: usize) -> Result<(), Memory>
     ensures { OnOk result (tokens.new.items ≡ tokens.old.items ++ star_before place) }
 {
-    if place == 0 { Ok(()) } else { push(tokens, Kind::Star) }
+    if place == 0 {
+        Ok(())
+    } else {
+        push(tokens, Kind::Star)
+    }
 }
 
 /// An expression, in round brackets where they are asked for.

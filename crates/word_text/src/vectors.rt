@@ -24,7 +24,11 @@ pub fn vector_text(alloc: Global, v: &Vector) -> Result<String, Memory>
 fn push_space(text: &mut String, place: usize) -> Result<(), Memory>
     ensures { OnOk result (string_bytes text.new ≡ string_bytes text.old ++ space_before place) }
 {
-    if place == 0 { Ok(()) } else { text.push_str(" ") }
+    if place == 0 {
+        Ok(())
+    } else {
+        text.push_str(" ")
+    }
 }
 
 /// A number in decimal.

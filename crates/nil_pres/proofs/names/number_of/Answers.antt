@@ -1,4 +1,4 @@
-use Rattle.std.proofs.Common.{◌+◌, option_map, position, sym, ◌∙◌, ap, string_bytes}
+use Rattle.std.proofs.Common.{◌+◌, option_map, sym, ◌∙◌, ap, string_bytes}
 use Rattle.std.specs.Str.{bytes_eq}
 use Rattle.nil_pres.proofs.Reading.{position-map}
 use Rattle.nil_pres.proofs.names.number_of.Goals as goal

@@ -1,5 +1,4 @@
-use Rattle.std.proofs.Common.{◌≡◌, List, true, sym, ◌∙◌, ap}
-use Rattle.nil_pres.specs.declared.syllable.Syllable.{Syllable}
+use Rattle.std.proofs.Common.{◌≡◌, true, sym, ◌∙◌, ap}
 use Rattle.nil_pres.specs.Presented.{right_side}
 use Rattle.query_session.specs.Central.{are_central}
 use Rattle.query_session.proofs.FirstBad.{first_bad-row}

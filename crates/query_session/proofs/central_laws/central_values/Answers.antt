@@ -1,5 +1,4 @@
 -- By the laws of the quadratic table.
-use Rattle.std.proofs.Common.{length}
 use Rattle.hall_law.specs.Quadratic.{quadratic}
 use Rattle.nil_pres.specs.Relations.{relations_of}
 use Rattle.query_session.specs.Central.{is_central}

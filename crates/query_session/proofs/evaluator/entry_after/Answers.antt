@@ -1,7 +1,6 @@
-use Rattle.std.proofs.Common.{◌≡◌, ℕ, suc, ◌+◌, ◌-◌, ◌<◌, ◌≤◌, ℤ, ◌+ℤ◌, ◌*ℤ◌, unsigned_abs, List, length, map, sym, ◌∙◌, ap, arith}
+use Rattle.std.proofs.Common.{◌≡◌, ℕ, suc, ◌+◌, ◌-◌, ◌<◌, ℤ, ◌+ℤ◌, ◌*ℤ◌, unsigned_abs, List, length, map, sym, ◌∙◌, ap, arith}
 use Rattle.std.proofs.lemmas.Int.{ints, to_z-of_z}
 use Rattle.nil_word.specs.Exponents.{entry, numbers}
-use Rattle.nil_pres.specs.declared.syllable.Syllable.{Syllable}
 use Rattle.query_session.specs.Central.{exponent, greatest}
 use Rattle.query_session.specs.Steps.{settled, step_summand}
 use Rattle.query_session.proofs.Magnitudes.{settled-past, settled-next}

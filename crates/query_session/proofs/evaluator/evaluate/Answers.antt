@@ -1,4 +1,4 @@
-use Rattle.std.proofs.Common.{◌≡◌, sym, ◌∙◌, ap}
+use Rattle.std.proofs.Common.{sym, ◌∙◌}
 use Rattle.std.proofs.lemmas.List.{get_or_default}
 use Rattle.query_session.proofs.Multiplying.{evaluated-next}
 use Rattle.query_session.proofs.evaluator.evaluate.Goals as goal

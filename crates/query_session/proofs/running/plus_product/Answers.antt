@@ -1,7 +1,6 @@
-use Rattle.std.proofs.Common.{◌*ℤ◌, ◌+◌, ◌<◌, FitsSigned, of_z, ap, arith}
+use Rattle.std.proofs.Common.{◌*ℤ◌, FitsSigned, of_z, ap, arith}
 use Rattle.std.specs.Int.{w128}
 use Rattle.std.proofs.lemmas.Int.{to_z-of_z}
-use Rattle.query_session.specs.Central.{greatest}
 use Rattle.query_session.proofs.Magnitudes.{product_past}
 use Rattle.query_session.proofs.running.plus_product.Goals as goal
 

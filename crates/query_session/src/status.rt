@@ -1,0 +1,46 @@
+//! How a session ends.
+
+ghost use Rattle.std.specs.Prelude.{◌≡◌};
+ghost use Rattle.query_session.specs.Statuses.{number_of};
+
+use super::usage_kind::UsageKind;
+use pres_text::FileKind;
+
+/// How a session ends.
+#[derive(Clone, Copy, Debug, PartialEq, Eq)]
+pub enum Status {
+    /// All was answered and written.
+    Done,
+    /// The words are refused.
+    Usage(UsageKind),
+    /// The presentation file's first fault, with its line from 1.
+    BadFile { line: u64, kind: FileKind },
+    /// A file or the query lines could not be read.
+    ReadFault,
+    /// The output could not be written.
+    WriteFault,
+    /// Memory is wanting.
+    Memory,
+    /// A file or the query lines are too long.
+    LongInput,
+    /// The first pair whose right side has a generator that isn't central.
+    NotCentral { j: u32, i: u32 },
+}
+
+impl Status {
+    /// The number that the program ends with.
+    pub fn number(&self) -> u8
+        ensures { result ≡ number_of self.now }
+    {
+        match self {
+            Status::Done => 0,
+            Status::Usage(_) => 2,
+            Status::BadFile { .. } => 3,
+            Status::ReadFault => 6,
+            Status::WriteFault => 7,
+            Status::Memory => 8,
+            Status::LongInput => 10,
+            Status::NotCentral { .. } => 12,
+        }
+    }
+}
