@@ -7,6 +7,8 @@ pub mod laws;
 mod shaping;
 mod table;
 mod table_of_fault;
+mod tailing;
+mod tops;
 mod wide_at;
 
 pub use checked::Checked;

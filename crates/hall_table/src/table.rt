@@ -1,10 +1,12 @@
 //! Tables.
 
-ghost use Rattle.std.specs.Prelude.{◌≡◌, ℕ, ◌+◌, ◌-◌, ◌<◌, ◌≤◌, length, IfOk, OnOk, IfErr};
+ghost use Rattle.std.specs.Prelude.{◌≡◌, ℕ, ℤ, ◌+◌, ◌-◌, ◌<◌, ◌≤◌, length, IfOk, OnOk, IfErr};
+ghost use Rattle.binom_poly.specs.Polynomial.{value_of};
 
 use super::Memory;
 use super::shaping::has_shape;
 use super::table_of_fault::TableOfFault;
+use super::tailing::from_level;
 use binom_poly::{Poly, copy};
 use std::alloc::Global;
 use std::marker::Model;
@@ -29,6 +31,7 @@ impl Model for Table {
 
 impl Table {
     ghost use Rattle.hall_table.specs.Tabled.{IsTabled, AreShaped, IsFirstUnshaped, last_of, poly_at};
+    ghost use Rattle.hall_table.specs.Tail.{at_level, tail_of};
 
     /// The table of the polynomials from a level on.
     pub fn of(_alloc: Global, level: u32, polys: Vec<Poly>) -> Result<Table, TableOfFault>
@@ -85,5 +88,19 @@ impl Table {
             level: self.level,
             polys,
         })
+    }
+    /// The table from a level on, with the variables below the level set to 0.
+    pub fn tail(&self, alloc: Global, level: u32) -> Result<Table, Memory>
+        requires least { self.now.level ≤ level }
+        requires most { level ≤ last_of self.now }
+        ensures tail { IfOk result (λ t. t ≡ tail_of self.now level) }
+        ensures values { IfOk result (λ t. (k : ℕ) (a : ℕ → ℤ) → level ≤ k → k ≤ last_of self.now
+            → value_of a (poly_at t k) ≡ value_of (at_level level a) (poly_at self.now k)) }
+    {
+        let mut polys = Vec::new(alloc);
+        for poly in &self.polys[(level - self.level) as usize..] {
+            polys.push(from_level(alloc, poly, level)?)?;
+        }
+        Ok(Table { level, polys })
     }
 }
