@@ -25,7 +25,7 @@ abbrev pub has_row : Tabled → ℕ → Bool
 has_row t v = is_lower t.level (last_of t + 1) v
 
 abbrev pub width_for : Tabled → ℕ → ℕ
-width_for t v = if has_row t v then max 1 (greatest_in v t.polys) + 1 else 0
+width_for t v = if has_row t v then max (greatest_in v t.polys) 1 + 1 else 0
 
 pub record HasRows (t : Tabled) (rows : List Reading) : Type 0 where
   pub width : (v : ℕ) → width_at rows v ≡ width_for t v

@@ -4,6 +4,7 @@
 
 mod checked;
 pub mod laws;
+mod reserving;
 mod shaping;
 mod table;
 mod table_of_fault;

@@ -22,7 +22,7 @@ fn exponent(parts: &[Part], variable: u32) -> u32
 fn greatest_exponent(terms: &[Term], variable: u32) -> u32
     ensures { result ≡ greatest_exponent variable terms.now }
 {
-    let mut greatest = 0;
+    let mut greatest: u32 = 0;
     for term in terms {
         greatest = greatest.max(exponent(term.monomial.parts(), variable));
     }
@@ -33,7 +33,7 @@ fn greatest_exponent(terms: &[Term], variable: u32) -> u32
 pub fn greatest_in(polys: &[Poly], variable: u32) -> u32
     ensures greatest { result ≡ greatest_in variable polys.now }
 {
-    let mut greatest = 0;
+    let mut greatest: u32 = 0;
     for poly in polys {
         greatest = greatest.max(greatest_exponent(poly.terms(), variable));
     }
