@@ -9,7 +9,6 @@ use Rattle.binom_poly.specs.declared.term.Term.{Term}
 use Rattle.binom_poly.specs.Monomial.{exponent_of}
 use Rattle.hall_table.specs.Width.{greatest_exponent, greatest_in}
 
-
 pub exponent_found : (v : ℕ) (m : List Part) (i : ℕ) (d : Part) → i < length m → (get_or m i d).var ≡ v
     → exponent_of (drop i m) v ≡ (get_or m i d).exp
 unfolding exponent_of

@@ -45,7 +45,7 @@ alone_is v (q ∷ r ∷ m) h = absurd (false≢true h)
 pub is_alone-alone : (v : ℕ) → is_alone v (alone v) ≡ true
 is_alone-alone v = both (eqb v v) true (eq-eqb v v refl) refl
 
-not_alone : (v : ℕ) (m : List Part) → is_alone v m ≡ false → m ≢ alone v
+pub not_alone : (v : ℕ) (m : List Part) → is_alone v m ≡ false → m ≢ alone v
 not_alone v m h e = false≢true (sym h ∙ ap (is_alone v) e ∙ is_alone-alone v)
 
 none_alone : (v : ℕ) (m : List Part) → m ≢ alone v → is_alone v m ≡ false

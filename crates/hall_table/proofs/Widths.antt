@@ -137,7 +137,7 @@ tops_more t k ts one two x y h low high s e f g i =
     let most : t.level + length t.polys ≤ 49 = h.most in
     let Fits : Top → Type 0 = λ u. IsVariable u.var × (u.top ≤ 1000) in
     let whole : two ≡ (ts ++ top_of t k ∷ []) ++ top_of t (y_of k) ∷ [] =
-        i ∙ ap (λ us. us ++ y ∷ []) (g ∙ ap (λ (u : Top). ts ++ u ∷ []) e) ∙ ap (λ (u : Top). (ts ++ top_of t k ∷ []) ++ u ∷ []) f in
+    i ∙ ap (λ us. us ++ y ∷ []) (g ∙ ap (λ (u : Top). ts ++ u ∷ []) e) ∙ ap (λ (u : Top). (ts ++ top_of t k ∷ []) ++ u ∷ []) f in
     record {
       variables =
           subst (All Fits) (sym whole)

@@ -4,6 +4,7 @@
 
 mod checked;
 pub mod laws;
+mod multiplying;
 mod reserving;
 mod shaping;
 mod table;

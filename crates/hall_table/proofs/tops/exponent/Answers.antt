@@ -5,7 +5,7 @@ use Rattle.hall_table.proofs.tops.exponent.Goals as goal
 pub returns-then-part-variable : goal.returns-then-part-variable
 returns-then-part-variable c =
     sym (c.loop-part.invariant
-        ∙ exponent_found c.args.variable c.args.parts.now c.loop-part.part-index _ (omega arith) c.if-part-variable.true)
+    ∙ exponent_found c.args.variable c.args.parts.now c.loop-part.part-index _ (omega arith) c.if-part-variable.true)
 
 pub loop-part-preserved : goal.loop-part-preserved
 loop-part-preserved c =
