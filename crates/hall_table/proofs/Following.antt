@@ -33,14 +33,6 @@ pub record PutSoFar (t : Tabled) (place : ℕ → ℕ) (v : List ℤ) (rows : Li
   pub fits : (j : ℕ) → j < k → t.level ≤ j → row_passes (entry v j) (width_for t (place j)) ≡ false
   pub put : (j : ℕ) → j < k → t.level ≤ j → value_at rows (place j) ≡ entry v j
 
-pub put_begins : (t : Tabled) (place : ℕ → ℕ) (v : List ℤ) (rows : List Reading) (k : ℕ) → k ≡ t.level → HasRows t rows
-    → PutSoFar t place v rows k
-put_begins t place v rows k e h = record {
-  placed = h;
-  fits = λ j l m. absurd (omega arith);
-  put = λ j l m. absurd (omega arith);
-}
-
 pub put_more : (t : Tabled) (place : ℕ → ℕ) (v : List ℤ) (rows new : List Reading) (k : ℕ) (x y : ℤ)
     → ((j : ℕ) → j < k → place j ≢ place k) → 0 < width_at rows (place k) → y ≡ entry v k → x ≡ y
     → PutSoFar t place v rows k → new ≡ with_value rows (place k) x → row_passes x (width_for t (place k)) ≡ false
@@ -77,26 +69,6 @@ pub record SumsSoFar (t : Tabled) (a : ℕ → ℤ) (sums : List ℤ) (k : ℕ) 
   pub made : (j : ℕ) → j < k → t.level ≤ j
       → (entry sums j ≡ value_of a (poly_at t j)) × (unsigned_abs (entry sums j) < 2 ^ 127)
 
-pub sums_begin : (t : Tabled) (a : ℕ → ℤ) (sums : List ℤ) (k : ℕ) → k ≡ t.level → SumsSoFar t a sums k
-sums_begin t a sums k e = record { fits = λ j l m. absurd (omega arith); made = λ j l m. absurd (omega arith) }
-
-pub sums_more : (t : Tabled) (a : ℕ → ℤ) (sums new : List ℤ) (k : ℕ) (x y : ℤ) → IsTabled t → t.level ≤ k
-    → k - 1 < length sums → new ≡ set sums (k - 1) x → x ≡ y → y ≡ value_of a (poly_at t k) → unsigned_abs x < 2 ^ 127
-    → sum_passes a (poly_at t k) ≡ false → SumsSoFar t a sums k → SumsSoFar t a new (k + 1)
-sums_more t a sums new k x y h low l e f g w p s =
-    let least : 1 ≤ t.level = h.least in
-    let here : entry new k ≡ x = ap (λ xs. entry xs k) e ∙ get_or-set_same sums (k - 1) x (pos 0) l in
-    let Is : ℕ → ℤ → Type 0 = λ j z. (z ≡ value_of a (poly_at t j)) × (unsigned_abs z < 2 ^ 127) in
-    record {
-      fits = below_more (λ j. t.level ≤ j → sum_passes a (poly_at t j) ≡ false) k s.fits (λ m. p);
-      made =
-          below_more (λ j. t.level ≤ j → Is j (entry new j)) k
-          (λ j b m.
-          let other : j - 1 ≢ k - 1 = omega arith in
-          subst (Is j) (sym (ap (λ xs. entry xs j) e ∙ get_or-set_other sums (k - 1) (j - 1) x (pos 0) other)) (s.made j b m))
-          (λ m. subst (Is k) (sym here) (f ∙ g, w));
-    }
-
 pub all_sums : (t : Tabled) (a : ℕ → ℤ) (sums : List ℤ) (k end : ℕ) → IsTabled t → SumsSoFar t a sums k
     → end ≡ last_of t + 1 → end ≤ k → first_from t.level (generators t) (λ j. sum_passes a (poly_at t j)) ≡ None
 all_sums t a sums k end h s e l =
@@ -107,25 +79,6 @@ all_sums t a sums k end h s e l =
 pub record WrittenSoFar (sums : List ℤ) (level last : ℕ) (out : List ℤ) (k : ℕ) : Type 0 where
   pub size : length out ≡ last
   pub entries : (j : ℕ) → j < k → 1 ≤ j → entry out j ≡ cond (ltb j level) (pos 0) (entry sums j)
-
-pub writing_begins : (sums : List ℤ) (level last : ℕ) (out : List ℤ) → length out ≡ last → WrittenSoFar sums level last out 1
-writing_begins sums level last out h = record { size = h; entries = λ j l m. absurd (omega arith) }
-
-pub write_more : (sums : List ℤ) (level last : ℕ) (out new : List ℤ) (k : ℕ) (x y : ℤ) → 1 ≤ k → k ≤ last
-    → new ≡ set out (k - 1) x → x ≡ y → y ≡ cond (ltb k level) (pos 0) (entry sums k)
-    → WrittenSoFar sums level last out k → WrittenSoFar sums level last new (k + 1)
-write_more sums level last out new k x y low high e f g s =
-    let size : length out ≡ last = s.size in
-    let within : k - 1 < length out = omega arith in
-    record {
-      size = ap length e ∙ length-set out (k - 1) x ∙ s.size;
-      entries =
-          below_more (λ j. 1 ≤ j → entry new j ≡ cond (ltb j level) (pos 0) (entry sums j)) k
-          (λ j b m.
-          let other : j - 1 ≢ k - 1 = omega arith in
-          ap (λ xs. entry xs j) e ∙ get_or-set_other out (k - 1) (j - 1) x (pos 0) other ∙ s.entries j b m)
-          (λ m. ap (λ xs. entry xs k) e ∙ get_or-set_same out (k - 1) x (pos 0) within ∙ f ∙ g);
-    }
 
 pub all_written : (sums : List ℤ) (level last : ℕ) (out : List ℤ) (k end : ℕ) → WrittenSoFar sums level last out k
     → end ≡ last + 1 → end ≤ k → out ≡ map (λ j. cond (ltb j level) (pos 0) (entry sums j)) (numbers 1 last)

@@ -10,6 +10,8 @@ mod shaping;
 mod table;
 mod table_of_fault;
 mod tailing;
+#[cfg(test)]
+mod tests;
 mod tops;
 mod wide_at;
 
