@@ -1,0 +1,10 @@
+pub mod Shapes
+pub mod Tails
+pub mod Multiplied
+pub mod Following
+pub mod Covering
+pub mod Putting
+pub mod Orders
+pub mod Widths
+pub mod Greatest
+pub mod Dropping

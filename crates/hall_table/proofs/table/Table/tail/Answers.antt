@@ -1,0 +1,23 @@
+use Rattle.std.proofs.Common.{◌≡◌, ℕ, ℤ, subst}
+use Rattle.binom_poly.specs.Polynomial.{value_of}
+use Rattle.hall_table.specs.Tabled.{Tabled, IsTabled, poly_at}
+use Rattle.hall_table.specs.Tail.{tail_of, at_level}
+use Rattle.hall_table.proofs.Dropping.{tail_made, IsTabled-tail_of, value_of-tail_of}
+use Rattle.hall_table.proofs.table.Table.tail.Goals as goal
+
+-- the polynomials that were made are those of the tail
+pub invariant_of-result : goal.invariant_of-result
+invariant_of-result c =
+    subst IsTabled
+    (tail_made record { level = c.self.inside.level; polys = c.self.inside.polys.items } c.args.self.now c.args.level
+    c.loop-poly.poly-index c.deref.result.now c.loop-poly.polys.items c.self.view_is c.deref.ensures.value
+    c.loop-poly.invariant c.loop-poly-test.false)
+    (IsTabled-tail_of c.args.self.now c.args.level (subst IsTabled c.self.view_is c.self.invariant) c.requires.least c.requires.most)
+
+pub returns-clause-values : goal.returns-clause-values
+returns-clause-values c = λ k a low to.
+    subst (λ (t : Tabled). value_of a (poly_at t k) ≡ value_of (at_level c.args.level a) (poly_at c.args.self.now k))
+    (tail_made record { level = c.self.inside.level; polys = c.self.inside.polys.items } c.args.self.now c.args.level
+    c.loop-poly.poly-index c.deref.result.now c.loop-poly.polys.items c.self.view_is c.deref.ensures.value
+    c.loop-poly.invariant c.loop-poly-test.false)
+    (value_of-tail_of c.args.self.now c.args.level k a (subst IsTabled c.self.view_is c.self.invariant) c.requires.least low to)

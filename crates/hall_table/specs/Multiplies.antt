@@ -1,0 +1,17 @@
+-- A presentation with a table of it.
+--   Paired          what contracts see: the presentation and the table
+--   IsChecked c     the table is a multiplication table of the presentation at its level, by its values
+use Rattle.std.specs.Prelude.{◌≡◌, length}
+use Rattle.hall_law.specs.Table.{IsTable}
+use Rattle.nil_pres.specs.Presented.{Presented, IsPresented}
+use Rattle.nil_pres.specs.Relations.{relations_of}
+use Rattle.hall_table.specs.Tabled.{Tabled, IsTabled, last_of}
+use Rattle.hall_table.specs.Values.{values}
+
+pub record Paired : Type 0 where
+  pub pres : Presented
+  pub table : Tabled
+
+pub record IsChecked (c : Paired) : Type 0 where
+  pub last : last_of c.table ≡ length c.pres.names
+  pub multiplies : IsTable (relations_of c.pres) c.table.level (values c.table)

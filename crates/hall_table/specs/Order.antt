@@ -1,0 +1,60 @@
+-- The written order of a product f(a, b): the rows of x_k at the entries of a, then those of y_k at the entries of b,
+-- then the sums of f_k, each with k ascending from the level. The first of them that passes 128 bits is named.
+--   row_passes x n             among the products that make a row of n places for x, one passes
+--   sum_passes a p             the magnitudes of the terms' values sum to more than 2^127 - 1
+--   first_from low d p         the first of the d numbers from low on with p
+--   named place found rest     the refusal at what was found, and the rest where nothing was
+--   generators t               how many generators the table has
+--   x_passes t a k  y_passes t b k  sum_at_passes t a b k     the row or the sum of a generator passes
+--   multiplied t a b           the product, or the first place that passes
+-- k generator · a b vectors · p polynomial · t table
+use Rattle.std.specs.Prelude.{ℕ, zero, suc, ◌^◌, nat_le, Bool, false, ◌||◌, ℤ, unsigned_abs, List, length, Option, Some, None, Result, Ok, Err, if◌then◌else◌}
+use Rattle.nil_num.specs.Row.{written_product}
+use Rattle.nil_word.specs.Exponents.{entry}
+use Rattle.binom_poly.specs.declared.term.Term.{Term}
+use Rattle.binom_poly.specs.Readings.{magnitude_of}
+use Rattle.hall_table.specs.declared.wide_at.WideAt.{WideAt}
+use Rattle.hall_table.specs.declared.wide_at.WideAt.TheVariants.{RowX, RowY, Sum}
+use Rattle.hall_table.specs.Shape.{y_of}
+use Rattle.hall_table.specs.Tabled.{Tabled, poly_at}
+use Rattle.hall_table.specs.Values.{point_of, values}
+use Rattle.hall_table.specs.Width.{width_for}
+
+abbrev pub passes_below : ℤ → ℕ → Bool
+passes_below x zero = false
+passes_below x (suc n) = nat_le (2 ^ 127) (unsigned_abs (written_product x n)) || passes_below x n
+
+-- a row of n places is made by n - 1 products
+abbrev pub row_passes : ℤ → ℕ → Bool
+row_passes x zero = false
+row_passes x (suc n) = passes_below x n
+
+abbrev pub sum_passes : (ℕ → ℤ) → List Term → Bool
+sum_passes a p = nat_le (2 ^ 127) (magnitude_of a p)
+
+abbrev pub first_from : ℕ → ℕ → (ℕ → Bool) → Option ℕ
+first_from low zero p = None
+first_from low (suc d) p = if p low then Some low else first_from (suc low) d p
+
+abbrev pub named : (ℕ → WideAt) → Option ℕ → Result (List ℤ) WideAt → Result (List ℤ) WideAt
+named place (Some k) rest = Err (place k)
+named place None rest = rest
+
+abbrev pub generators : Tabled → ℕ
+generators t = length t.polys
+
+abbrev pub x_passes : Tabled → List ℤ → ℕ → Bool
+x_passes t a k = row_passes (entry a k) (width_for t k)
+
+abbrev pub y_passes : Tabled → List ℤ → ℕ → Bool
+y_passes t b k = row_passes (entry b k) (width_for t (y_of k))
+
+abbrev pub sum_at_passes : Tabled → List ℤ → List ℤ → ℕ → Bool
+sum_at_passes t a b k = sum_passes (point_of a b) (poly_at t k)
+
+abbrev pub multiplied : Tabled → List ℤ → List ℤ → Result (List ℤ) WideAt
+multiplied t a b =
+    named RowX (first_from t.level (generators t) (x_passes t a))
+    (named RowY (first_from t.level (generators t) (y_passes t b))
+    (named Sum (first_from t.level (generators t) (sum_at_passes t a b))
+    (Ok (values t a b))))
