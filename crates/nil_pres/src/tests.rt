@@ -30,8 +30,18 @@ fn a_pair_is_taken_once(rt: HostRuntime) -> Result<(), Fail> {
     let mut builder = three_names(rt.alloc())?;
     let right = [Syllable { number: 3, exp: 1 }];
     builder.add_relation(2, 1, &right)?;
-    assert!(rt; matches!(builder.add_relation(2, 1, &right), Err(RelationFault::Twice)));
-    assert!(rt; matches!(builder.add_relation(1, 2, &right), Err(RelationFault::Order)));
+    assert!(rt;
+        matches!(
+            builder.add_relation(2, 1, &right),
+            Err(RelationFault::Twice)
+        )
+    );
+    assert!(rt;
+        matches!(
+            builder.add_relation(1, 2, &right),
+            Err(RelationFault::Order)
+        )
+    );
     Ok(())
 }
 

@@ -130,8 +130,7 @@ judged_well (Some s) None place f q h = (refl, (s, h))
 good_tokens : (n bytes : ℕ) (s : State) (d : ℕ) (raised : Bool) (ts : List Token) (q : Query) → verdict_from s d raised bytes ts ≡ Ok q → AreBounded n ts → AreGood n (kinds_of ts)
 good_tokens n bytes s d raised [] q e h = tt
 good_tokens n bytes s d raised (t ∷ ts) q e h =
-    let well = judged_well (next s t.kind) (trouble d raised t.place t.kind) t.place (λ u. verdict_from u (deeper d t.kind) (is_caret t.kind) bytes ts) q e in
-    (
+    let well = judged_well (next s t.kind) (trouble d raised t.place t.kind) t.place (λ u. verdict_from u (deeper d t.kind) (is_caret t.kind) bytes ts) q e in (
       good_token n d raised t.place t.kind well.0 h.0,
       good_tokens n bytes well.1.0 (deeper d t.kind) (is_caret t.kind) ts q well.1.1 h.1,
     )
