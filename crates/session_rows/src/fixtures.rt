@@ -1,0 +1,64 @@
+//! Words, shelves, sources and sinks for a session.
+
+use nil_io::{MemoryShelf, MemorySink, MemorySource};
+use query_session::{Status, Words, session};
+use std::alloc::{AllocError, Global};
+
+pub(crate) const HEISENBERG: &str = "nilpotent 1\ngenerators a1 a2 a3\n[a2,a1] = a3\n";
+
+/// How a session ended, and what it wrote.
+#[derive(Drop)]
+pub(crate) struct Ended {
+    pub status: Status,
+    pub bytes: Vec<u8>,
+}
+
+pub(crate) fn words_of(alloc: Global, texts: &[&str]) -> Result<Words, AllocError> {
+    let mut items = Vec::new(alloc);
+    for text in texts {
+        items.push(String::from_str(alloc, text)?)?;
+    }
+    Ok(Words { items })
+}
+
+/// A shelf with a file `f`, whose calls with these numbers fail.
+pub(crate) fn shelf_of(
+    alloc: Global,
+    file: &[u8],
+    fail: &[u64],
+) -> Result<MemoryShelf, AllocError> {
+    let name = String::from_str(alloc, "f")?;
+    let mut files = Vec::new(alloc);
+    files.push((name, file.to_vec(alloc)?))?;
+    Ok(MemoryShelf::new(files, fail.to_vec(alloc)?))
+}
+
+pub(crate) fn source_of(
+    alloc: Global,
+    queries: &[u8],
+    fail: &[u64],
+) -> Result<MemorySource, AllocError> {
+    Ok(MemorySource::new(queries.to_vec(alloc)?, 4096, fail.to_vec(alloc)?))
+}
+
+/// A session that writes to a sink whose calls with these numbers fail.
+pub(crate) fn run_over(
+    alloc: Global,
+    words: &Words,
+    shelf: &mut MemoryShelf,
+    source: &mut MemorySource,
+    fail: &[u64],
+) -> Result<Ended, AllocError> {
+    let mut sink = MemorySink::new(Vec::with_capacity(alloc, 4096)?, fail.to_vec(alloc)?);
+    let status = session(alloc, words, shelf, source, &mut sink);
+    let bytes = sink.bytes().to_vec(alloc)?;
+    Ok(Ended { status, bytes })
+}
+
+/// A session over a file and queries, with no fault.
+pub(crate) fn answered(alloc: Global, file: &[u8], queries: &[u8]) -> Result<Ended, AllocError> {
+    let words = words_of(alloc, &["run", "f"])?;
+    let mut shelf = shelf_of(alloc, file, &[])?;
+    let mut source = source_of(alloc, queries, &[])?;
+    run_over(alloc, &words, &mut shelf, &mut source, &[])
+}

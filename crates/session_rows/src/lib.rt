@@ -1,0 +1,12 @@
+//! Worked sessions over the forms in memory: the tests of `query_session`, in a crate of their own so
+//! that it is proved once. Nothing is promised here.
+#![tactic(auto)]
+
+#[cfg(test)]
+mod fixtures;
+#[cfg(test)]
+mod long;
+#[cfg(test)]
+mod refusals;
+#[cfg(test)]
+mod rows;
