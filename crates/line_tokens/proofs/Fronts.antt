@@ -50,7 +50,8 @@ right_of_and : (a b : Bool) → (a && b) ≡ true → b ≡ true
 right_of_and true b h = h
 right_of_and false b h = cc
 
-prefix_len-run : (p : ℕ → Bool) (xs rest : List ℕ) → list_all p xs ≡ true → prefix_len p rest ≡ 0 → prefix_len p (xs ++ rest) ≡ length xs
+-- a run of bytes that pass, before one that doesn't
+pub prefix_len-run : (p : ℕ → Bool) (xs rest : List ℕ) → list_all p xs ≡ true → prefix_len p rest ≡ 0 → prefix_len p (xs ++ rest) ≡ length xs
 prefix_len-run p [] rest h e = e
 prefix_len-run p (x ∷ xs) rest h e =
     let a : p x ≡ true = left_of_and (p x) (list_all p xs) h in

@@ -1,15 +1,14 @@
 -- The canonical text of a presentation is a file of it.
-use Rattle.std.proofs.Common.{◌≡◌, ℕ, zero, suc, ◌+◌, ◌-◌, ◌≤◌, not, Bool, true, false, List, [], ◌∷◌, ◌++◌, length, map, get_or, codes, String, Global, string_bytes, Result, Ok, Err, IfOk, refl, sym, ◌∙◌, ap, subst, append_assoc, arith}
+use Rattle.std.proofs.Common.{◌≡◌, ℕ, zero, suc, ◌+◌, ◌-◌, ◌≤◌, not, true, List, [], ◌∷◌, ◌++◌, length, map, get_or, codes, String, Global, string_bytes, Result, Ok, Err, IfOk, refl, sym, ◌∙◌, ap, subst, append_assoc, arith}
 use Rattle.std.specs.List.{list_all}
 use Rattle.std.proofs.lemmas.List.{map-append}
 use Rattle.std.proofs.lemmas.Bool.Decides.{nat_tests}
 use Rattle.nil_pres.specs.declared.syllable.Syllable.{Syllable}
 use Rattle.nil_pres.specs.Presented.{Presented, IsPresented, right_side, is_letter, is_name_byte}
-use Rattle.line_tokens.specs.Tokens.{is_blank, is_silent, kinds}
+use Rattle.line_tokens.specs.Tokens.{is_blank}
 use Rattle.pres_text.specs.Lines.{Line, content, words}
-use Rattle.pres_text.specs.Relation.{relation_word}
-use Rattle.pres_text.specs.File.{Relation, spelled_as, IsLawful, AreRelations, none, more, IsFile}
-use Rattle.pres_text.specs.Text.{name_of, right_text, bracket_text, line_text, pairs_text, relations_text, names_text, text_of}
+use Rattle.pres_text.specs.File.{Relation, IsLawful, AreRelations, none, more, IsFile}
+use Rattle.pres_text.specs.Text.{name_of, line_text, pairs_text, relations_text, names_text, text_of}
 use Rattle.pres_text.proofs.Named.{IsWord, AreWords, are_words}
 use Rattle.pres_text.proofs.Tokens.{relation_text, relation_spelled}
 use Rattle.pres_text.proofs.Plain.{is_plain, weaker, plain-append, name_plain, relation_plain, plain_text}

@@ -1,23 +1,15 @@
 -- Lines that end in line feeds, and words behind spaces, are read back.
-use Rattle.std.proofs.Common.{◌≡◌, ℕ, zero, suc, ◌+◌, ◌-◌, ◌<◌, ◌≤◌, ◌==◌, not, Bool, true, false, if◌then◌else◌, List, [], ◌∷◌, ◌++◌, length, map, take, drop, get_or, codes, refl, sym, ◌∙◌, ap, subst, append_assoc, append-nil, arith, length-append}
+use Rattle.std.proofs.Common.{◌≡◌, ℕ, zero, suc, ◌+◌, ◌-◌, ◌≤◌, ◌==◌, not, Bool, true, false, if◌then◌else◌, List, [], ◌∷◌, ◌++◌, length, map, take, drop, get_or, codes, refl, sym, ◌∙◌, ap, append_assoc, append-nil, arith, length-append}
 use Rattle.std.specs.List.{list_all, prefix_len, position_or_len, flat_map}
-use Rattle.std.specs.Str.Lines.{strip_carriage_return}
 use Rattle.std.proofs.Math.Seq.{take-append_seam, drop-append_seam, take-suc}
 use Rattle.std.proofs.lemmas.Grind.{flat_map-append}
 use Rattle.std.proofs.lemmas.List.{take_all}
 use Rattle.line_tokens.specs.Tokens.{is_blank, is_silent}
+use Rattle.line_tokens.proofs.Fronts.{prefix_len-run}
 use Rattle.pres_text.specs.Lines.{Line, lines, content_from, content, words}
 use Rattle.pres_text.specs.Text.{name_of, names_text}
-use Rattle.pres_text.proofs.Named.{left_of, right_of}
 use Rattle.pres_text.proofs.Pieces.{lines-front, words-front, words-blank}
 use Rattle.pres_text.proofs.Plain.{is_plain, plain_line, plain_stripped}
-
--- a run of bytes that pass, before one that doesn't
-prefix_len-run : (p : ℕ → Bool) (xs rest : List ℕ) → list_all p xs ≡ true → prefix_len p rest ≡ 0 → prefix_len p (xs ++ rest) ≡ length xs
-prefix_len-run p [] rest h e = e
-prefix_len-run p (x ∷ xs) rest h e =
-    let run : prefix_len p (xs ++ rest) ≡ length xs = prefix_len-run p xs rest (right_of (p x) (list_all p xs) h) e in
-    ap (λ (q : Bool). if q then 1 + prefix_len p (xs ++ rest) else 0) (left_of (p x) (list_all p xs) h) ∙ (omega arith)
 
 -- each element of a list
 abbrev pub Each : {A : Type 0} → (A → Type 0) → List A → Type 0

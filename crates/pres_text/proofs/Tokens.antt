@@ -11,7 +11,7 @@ use Rattle.line_tokens.specs.declared.kind.Kind.{Kind}
 use Rattle.line_tokens.specs.declared.kind.Kind.TheVariants as k
 use Rattle.line_tokens.specs.Tokens.{is_digit, kinds}
 use Rattle.line_tokens.proofs.Fronts.{kinds-word, kinds-signed, kinds-single, kinds-blank}
-use Rattle.pres_text.specs.Relation.{Power, IsPower, plain, raised, ArePowers, last, times, powers, IsSpelled, relation, relation_word}
+use Rattle.pres_text.specs.Relation.{IsPower, plain, raised, ArePowers, last, times, powers, IsSpelled, relation, relation_word}
 use Rattle.pres_text.specs.File.{Relation, power_of, spelled_as}
 use Rattle.pres_text.specs.Text.{name_of, power_text, right_text, bracket_text}
 use Rattle.pres_text.proofs.Named.{IsWord, AreWords}
