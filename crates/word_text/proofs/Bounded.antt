@@ -1,7 +1,7 @@
 -- The tokens of a query line are within bounds, and what is read of them is well shaped.
 --   is_bounded n k    a generator up to n or unknown, an integer within bounds or without a value, or anything else
 --   AreBounded n ts   all of them are
-use Rattle.std.proofs.Common.{◌≡◌, ℕ, zero, suc, ◌+◌, ◌-◌, ◌^◌, ◌==◌, ◌<◌, nat_le, Bool, true, false, cond, ◌&&◌, ◌||◌, ℤ, pos, neg_ℤ, Option, Some, None, option_map, unwrap_or, position, List, [], ◌∷◌, length, Result, Ok, Err, IfOk, refl, arith}
+use Rattle.std.proofs.Common.{◌≡◌, ℕ, zero, suc, ◌+◌, ◌-◌, ◌^◌, ◌==◌, ◌<◌, nat_le, Bool, true, false, cond, ◌&&◌, ◌||◌, pos, neg_ℤ, Option, Some, None, option_map, unwrap_or, position, List, [], ◌∷◌, length, Result, Ok, Err, IfOk, refl, arith}
 use Rattle.std.specs.Prelude.{codes}
 use Rattle.std.specs.List.{prefix_len, take_while}
 use Rattle.std.specs.Str.{bytes_eq}
@@ -130,8 +130,7 @@ judged_well (Some s) None place f q h = (refl, (s, h))
 good_tokens : (n bytes : ℕ) (s : State) (d : ℕ) (raised : Bool) (ts : List Token) (q : Query) → verdict_from s d raised bytes ts ≡ Ok q → AreBounded n ts → AreGood n (kinds_of ts)
 good_tokens n bytes s d raised [] q e h = tt
 good_tokens n bytes s d raised (t ∷ ts) q e h =
-    let well = judged_well (next s t.kind) (trouble d raised t.place t.kind) t.place (λ u. verdict_from u (deeper d t.kind) (is_caret t.kind) bytes ts) q e in
-    (
+    let well = judged_well (next s t.kind) (trouble d raised t.place t.kind) t.place (λ u. verdict_from u (deeper d t.kind) (is_caret t.kind) bytes ts) q e in (
       good_token n d raised t.place t.kind well.0 h.0,
       good_tokens n bytes well.1.0 (deeper d t.kind) (is_caret t.kind) ts q well.1.1 h.1,
     )
