@@ -1,5 +1,5 @@
 -- What a line says is decided by whether it is silent, and else by its tokens.
-use Rattle.std.proofs.Common.{◌≡◌, ℕ, true, false, List, length, Result, Ok, Err, IfOk, IfErr, refl, sym, ◌∙◌, subst}
+use Rattle.std.proofs.Common.{◌≡◌, ℕ, true, false, List, length, Result, Ok, Err, IfOk, IfErr, refl}
 use Rattle.nil_word.specs.declared.query.Query.{Query}
 use Rattle.nil_word.specs.declared.query.Query.TheVariants as query
 use Rattle.line_tokens.specs.Tokens.{is_silent}
@@ -8,7 +8,7 @@ use Rattle.word_text.specs.declared.query_fault.QueryFault.TheVariants as fault
 use Rattle.word_text.specs.Words.{query_tokens}
 use Rattle.word_text.specs.Faults.{IsRead, IsFirstFault}
 use Rattle.word_text.specs.Lines.{ReadsAs, FailsWith, blank, says}
-use Rattle.word_text.specs.Seen.{Gives, IsMemoryOr}
+use Rattle.word_text.specs.Seen.{IsMemoryOr}
 
 -- a silent line reads as the blank query alone
 pub silent_reads : (names : List (List ℕ)) (line : List ℕ) (q : Query) → is_silent line ≡ true → ReadsAs names line q → query.Blank ≡ q

@@ -1,12 +1,11 @@
 -- Each generator's name is a word of the query language that means the generator.
-use Rattle.std.proofs.Common.{◌≡◌, ℕ, suc, ◌+◌, ◌-◌, ◌<◌, ◌≤◌, nat_le, Bool, true, false, not, cond, ◌&&◌, ◌||◌, List, [], ◌∷◌, length, get_or, Some, None, option_map, unwrap_or, position, refl, sym, ◌∙◌, ap, arith}
+use Rattle.std.proofs.Common.{◌≡◌, ℕ, ◌+◌, ◌-◌, ◌<◌, ◌≤◌, nat_le, Bool, true, false, not, cond, ◌&&◌, ◌||◌, List, [], ◌∷◌, length, get_or, option_map, unwrap_or, refl, ◌∙◌, ap, arith}
 use Rattle.std.specs.Prelude.{codes}
 use Rattle.std.specs.List.{list_all, list_any}
 use Rattle.std.specs.Str.{bytes_eq}
 use Rattle.std.proofs.lemmas.Bool.Decides.{nat_tests}
-use Rattle.nil_pres.specs.Presented.{AreNames, is_name, is_letter, is_name_byte, is_first_letter, reserved}
+use Rattle.nil_pres.specs.Presented.{AreNames, is_name, is_letter, is_name_byte, reserved}
 use Rattle.nil_pres.proofs.Finding.{position-own}
-use Rattle.line_tokens.specs.declared.kind.Kind.{Kind}
 use Rattle.line_tokens.specs.declared.kind.Kind.TheVariants as k
 use Rattle.line_tokens.specs.Tokens.{generator_of}
 use Rattle.word_text.specs.Words.{query_word}

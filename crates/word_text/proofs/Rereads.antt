@@ -1,29 +1,27 @@
 -- A written query reads as itself.
-use Rattle.std.proofs.Common.{◌≡◌, ℕ, ◌+◌, ◌≤◌, ◌==◌, max, inl, inr, Bool, true, false, nat_le, cond, ◌&&◌, Option, Some, None, List, [], ◌∷◌, ◌++◌, length, map, Result, Ok, Err, IfOk, String, Global, string_bytes, refl, sym, ◌∙◌, ap, subst, append-nil, arith}
+use Rattle.std.proofs.Common.{◌≡◌, ℕ, ◌≤◌, ◌==◌, inl, inr, Bool, true, false, nat_le, cond, ◌&&◌, Option, Some, None, List, [], ◌∷◌, ◌++◌, length, Result, Ok, Err, IfOk, String, Global, string_bytes, refl, sym, ◌∙◌, ap, subst, append-nil, arith}
 use Rattle.std.specs.List.{list_all}
 use Rattle.std.proofs.lemmas.Bool.Decides.{nat_tests}
 use Rattle.nil_word.specs.declared.expr.Expr.{Expr}
 use Rattle.nil_word.specs.declared.query.Query.{Query}
 use Rattle.nil_word.specs.declared.query.Query.TheVariants as query
-use Rattle.nil_word.specs.Expressions.{IsShaped}
 use Rattle.nil_pres.specs.Presented.{AreNames}
 use Rattle.line_tokens.specs.declared.kind.Kind.{Kind}
 use Rattle.line_tokens.specs.declared.kind.Kind.TheVariants as k
 use Rattle.line_tokens.specs.declared.token.Token.{Token}
 use Rattle.line_tokens.specs.Tokens.{is_silent, kinds}
-use Rattle.word_text.specs.declared.query_fault.QueryFault.{QueryFault}
 use Rattle.word_text.specs.declared.query_fault.QueryFault.TheVariants as fault
 use Rattle.word_text.specs.Words.{query_word, query_tokens}
 use Rattle.word_text.specs.Grammar.{IsExpr, IsLine, value, same, solve, quotient}
-use Rattle.word_text.specs.Faults.{kinds_of, deeper, is_caret, is_opening, IsRead}
+use Rattle.word_text.specs.Faults.{kinds_of, deeper, is_caret}
 use Rattle.word_text.specs.Lines.{ReadsAs, blank, says}
 use Rattle.word_text.specs.Machine.{State, start, next, ended, bound, reached, accepted}
-use Rattle.word_text.specs.Verdict.{trouble, judged, ended_or, verdict_from, verdict}
-use Rattle.word_text.specs.Writing.{Written, kind_text, text_of, written, written_query, query_text}
+use Rattle.word_text.specs.Verdict.{trouble, ended_or, verdict_from, verdict}
+use Rattle.word_text.specs.Writing.{written, written_query, query_text}
 use Rattle.word_text.specs.Shaping.{IsShapedQuery, most_open_from, most_open}
 use Rattle.word_text.proofs.Complete.{line_accepted}
 use Rattle.word_text.proofs.Judged.{Finds, verdict_finds, judged_on}
-use Rattle.word_text.proofs.Spelled.{IsSpelled, is_fair, spelled_mark, spelled_then, mark_equal, mark_bar, cuts_first, cut_solve, cut_quotient, SaysNothing, silent_kinds}
+use Rattle.word_text.proofs.Spelled.{IsSpelled, is_fair, spelled_then, mark_equal, mark_bar, cuts_first, cut_solve, cut_quotient, SaysNothing, silent_kinds}
 use Rattle.word_text.proofs.Rewriting.{IsSound, AreWords, reads_expr, written_sound}
 use Rattle.word_text.proofs.Named.{are_words}
 

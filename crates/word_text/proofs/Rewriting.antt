@@ -1,5 +1,5 @@
 -- A written expression is in the grammar, and its text is cut into its tokens.
-use Rattle.std.proofs.Common.{◌≡◌, ℕ, ◌+◌, ◌-◌, ◌^◌, ◌<◌, ◌≤◌, nat_le, Bool, true, false, ◌&&◌, ℤ, pos, negsuc, Some, None, List, [], ◌∷◌, ◌++◌, length, map, refl, sym, ◌∙◌, ap, subst, append_assoc, unsigned_abs, arith}
+use Rattle.std.proofs.Common.{◌≡◌, ℕ, ◌^◌, ◌<◌, nat_le, Bool, true, false, ◌&&◌, ℤ, pos, negsuc, Some, List, [], ◌∷◌, ◌++◌, length, map, refl, sym, ◌∙◌, ap, subst, append_assoc, unsigned_abs, arith}
 use Rattle.std.specs.List.{list_all}
 use Rattle.std.proofs.lemmas.List.{length-map}
 use Rattle.std.specs.Ordering.{int_eq}
@@ -12,7 +12,6 @@ use Rattle.line_tokens.specs.declared.kind.Kind.{Kind}
 use Rattle.line_tokens.specs.declared.kind.Kind.TheVariants as k
 use Rattle.word_text.specs.declared.shape.Shape.{Shape}
 use Rattle.word_text.specs.declared.shape.Shape.TheVariants as shape
-use Rattle.word_text.specs.Products.{product_of}
 use Rattle.word_text.specs.Grammar.{is_integer_next, IsAtom, IsFactor, IsProduct, IsExpr, name, one, square, round, plain, power, conjugate, last, times, whole}
 use Rattle.word_text.specs.Writing.{Written, bracketed, as_item, as_base, as_conjugator, joined_by_star, item_tokens, written_level, written}
 use Rattle.word_text.proofs.Spelled.{IsSpelled, IsWord, spelled_name, spelled_integer, spelled_mark, spelled_then, spelled_nil, spelled_bracketed, mark_star, mark_caret, mark_comma, mark_square_open, mark_square_close}

@@ -1,5 +1,5 @@
 -- The text of written tokens is cut into these tokens again.
-use Rattle.std.proofs.Common.{◌≡◌, ℕ, ◌+◌, ◌-◌, ◌==◌, ◌^◌, ◌<◌, ◌≤◌, ◌⊎◌, nat_le, Bool, true, false, cond, ◌&&◌, ℤ, pos, Some, None, List, [], ◌∷◌, ◌++◌, length, get_or, inl, inr, refl, sym, ◌∙◌, ap, append_assoc, append-nil, unsigned_abs, arith}
+use Rattle.std.proofs.Common.{◌≡◌, ℕ, ◌+◌, ◌-◌, ◌==◌, ◌^◌, ◌<◌, ◌⊎◌, nat_le, Bool, true, false, cond, ◌&&◌, ℤ, pos, Some, None, List, [], ◌∷◌, ◌++◌, get_or, inl, inr, refl, sym, ◌∙◌, ap, append_assoc, append-nil, unsigned_abs, arith}
 use Rattle.std.specs.List.{prefix_len, list_all}
 use Rattle.std.specs.Prelude.{codes}
 use Rattle.std.specs.Ordering.{int_eq}

@@ -1,7 +1,7 @@
 -- The text of a vector.
 --   text_of_entries v   the entries in decimal, one space between
 --   space_before i      what stands before the entry at a place, from 0
-use Rattle.std.specs.Prelude.{ℕ, zero, suc, ℤ, List, [], ◌∷◌, map, codes}
+use Rattle.std.specs.Prelude.{ℕ, zero, suc, ℤ, List, [], map, codes}
 use Rattle.std.specs.List.{join_with_byte}
 use Rattle.std.specs.Fmt.{signed_decimal}
 

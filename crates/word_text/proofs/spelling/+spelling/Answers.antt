@@ -1,4 +1,4 @@
-use Rattle.std.proofs.Common.{◌≡◌, ◌∷◌, [], ◌∙◌, sym, ap, rules, ◌++◌, arith}
+use Rattle.std.proofs.Common.{◌≡◌, ◌∷◌, [], ◌∙◌, sym, ap, rules, ◌++◌}
 use Rattle.nil_word.specs.declared.expr.Expr.TheVariants.{Pow, Conj, Comm}
 use Rattle.std.proofs.lemmas.List.{take_all}
 use Rattle.word_text.specs.Writing.{exponent_token}
