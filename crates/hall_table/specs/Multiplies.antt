@@ -1,6 +1,6 @@
 -- A presentation with a table of it.
 --   Paired          what contracts see: the presentation and the table
---   IsChecked c     the table is a multiplication table of the presentation at its level, by its values
+--   IsChecked c     the table's values are a multiplication table of the presentation at its level
 use Rattle.std.specs.Prelude.{◌≡◌, length}
 use Rattle.hall_law.specs.Table.{IsTable}
 use Rattle.nil_pres.specs.Presented.{Presented, IsPresented}

@@ -1,11 +1,13 @@
--- The written order of a product f(a, b): the rows of x_k at the entries of a, then those of y_k at the entries of b,
--- then the sums of f_k, each with k ascending from the level. The first of them that passes 128 bits is named.
+-- The written order of a product f(a, b): the rows of x_k at the entries of a, then those of y_k
+-- at the entries of b, then the sums of f_k, each with k ascending from the level. The first of
+-- them that passes 128 bits is named.
 --   row_passes x n             among the products that make a row of n places for x, one passes
 --   sum_passes a p             the magnitudes of the terms' values sum to more than 2^127 - 1
 --   first_from low d p         the first of the d numbers from low on with p
 --   named place found rest     the refusal at what was found, and the rest where nothing was
 --   generators t               how many generators the table has
---   x_passes t a k  y_passes t b k  sum_at_passes t a b k     the row or the sum of a generator passes
+--   x_passes t a k  y_passes t b k     the row of x_k or y_k passes
+--   sum_at_passes t a b k              the sum of f_k passes
 --   multiplied t a b           the product, or the first place that passes
 -- k generator · a b vectors · p polynomial · t table
 use Rattle.std.specs.Prelude.{ℕ, zero, suc, ◌^◌, nat_le, Bool, false, ◌||◌, ℤ, unsigned_abs, List, length, Option, Some, None, Result, Ok, Err, if◌then◌else◌}

@@ -37,13 +37,15 @@ AreLower level k m = All (λ q. IsTrue (is_lower level k q.var)) m
 pub record HasShape (level k : ℕ) (p : List Term) : Type 0 where
   pub x : coefficient_of k p ≡ pos 1
   pub y : coefficient_of (y_of k) p ≡ pos 1
-  pub others : All (λ t. t.monomial ≢ alone k → t.monomial ≢ alone (y_of k) → AreLower level k t.monomial) p
+  pub others : All
+      (λ t. t.monomial ≢ alone k → t.monomial ≢ alone (y_of k) → AreLower level k t.monomial) p
 
 abbrev pub are_lower : ℕ → ℕ → List Part → Bool
 are_lower level k m = list_all (λ q. is_lower level k q.var) m
 
 abbrev pub is_allowed : ℕ → ℕ → Term → Bool
-is_allowed level k t = is_alone k t.monomial || (is_alone (y_of k) t.monomial || are_lower level k t.monomial)
+is_allowed level k t =
+    is_alone k t.monomial || (is_alone (y_of k) t.monomial || are_lower level k t.monomial)
 
 abbrev pub has_shape : ℕ → ℕ → List Term → Bool
 has_shape level k p =

@@ -26,7 +26,8 @@ abbrev pub poly_at : Tabled → ℕ → List Term
 poly_at t k = poly_in t.level t.polys k
 
 abbrev pub AreShaped : ℕ → List (List Term) → Type 0
-AreShaped level ps = (k : ℕ) → level ≤ k → k < level + length ps → HasShape level k (poly_in level ps k)
+AreShaped level ps =
+    (k : ℕ) → level ≤ k → k < level + length ps → HasShape level k (poly_in level ps k)
 
 pub record IsFirstUnshaped (level : ℕ) (ps : List (List Term)) (k : ℕ) : Type 0 where
   pub from : level ≤ k

@@ -22,7 +22,8 @@ abbrev pub from_level : ℕ → List Term → List Term
 from_level level p = filter (λ t. is_kept level t.monomial) p
 
 abbrev pub tail_of : Tabled → ℕ → Tabled
-tail_of t level = record { level = level; polys = map (from_level level) (drop (level - t.level) t.polys) }
+tail_of t level =
+    record { level = level; polys = map (from_level level) (drop (level - t.level) t.polys) }
 
 abbrev pub at_level : ℕ → (ℕ → ℤ) → ℕ → ℤ
 at_level level a v = if is_from level v then a v else pos 0

@@ -1,8 +1,9 @@
--- Which rows a table needs: one for each x_k and y_k, up to its greatest exponent in the table, and at least 1.
+-- Which rows a table needs: one for each x_k and y_k, up to its greatest exponent in the table, and
+-- at least 1.
 --   greatest_exponent v p   the greatest exponent of v in a polynomial, and 0 where v isn't in it
 --   greatest_in v ps        the greatest in a list of polynomials
 --   has_row t v             v is x_k or y_k of a generator from the level on
---   width_for t v           how many places the row of v has: its top plus 1, and 0 where v has no row
+--   width_for t v           how many places the row of v has: its top plus 1, and 0 without a row
 --   HasRows t rows          the rows have exactly these variables and tops
 -- v variable · p polynomial · t table
 use Rattle.std.specs.Prelude.{◌≡◌, ℕ, ◌+◌, Bool, max, List, [], ◌∷◌, if◌then◌else◌}

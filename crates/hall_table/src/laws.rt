@@ -14,8 +14,10 @@ use nil_pres::laws::relations;
 /// The product by a checked table stands for the two ordered words joined.
 pub fn product()
     ensures { (c : Paired) → IsPresented c.pres → IsChecked c → (x y : List ℤ)
-        → IsVector (length c.pres.names) c.table.level x → IsVector (length c.pres.names) c.table.level y
-        → Congruent (relations_of c.pres) c.table.level (ordered (values c.table x y)) (ordered x ++ ordered y) }
+        → IsVector (length c.pres.names) c.table.level x
+        → IsVector (length c.pres.names) c.table.level y
+        → Congruent (relations_of c.pres) c.table.level
+        (ordered (values c.table x y)) (ordered x ++ ordered y) }
 {
     uniqueness();
     relations();

@@ -71,7 +71,8 @@ impl Table {
         ensures within { IfOk result (λ v. unsigned_abs v < 2 ^ 127) }
         ensures wide { MatchResult result
             (λ _. sum_passes (value_at rows.now) (poly_at self.now k) ≡ false)
-            (λ at. (at ≡ WideAt.Sum k) × (sum_passes (value_at rows.now) (poly_at self.now k) ≡ true)) }
+            (λ at. (at ≡ WideAt.Sum k)
+            × (sum_passes (value_at rows.now) (poly_at self.now k) ≡ true)) }
     {
         match value(&self.polys[(k - self.level) as usize], rows) {
             Ok(value) => Ok(value),
@@ -85,9 +86,11 @@ impl Table {
         requires rows { HasRows self.now rows.old }
         ensures first { MatchResult result
             (λ _. first_from self.now.level (generators self.now) (x_passes self.now a.now) ≡ None)
-            (λ at. option_map WideAt.RowX (first_from self.now.level (generators self.now) (x_passes self.now a.now)) ≡ Some at) }
+            (λ at. option_map WideAt.RowX
+            (first_from self.now.level (generators self.now) (x_passes self.now a.now)) ≡ Some at) }
         ensures rows { HasRows self.now rows.new }
-        ensures put { OnOk result ((k : ℕ) → self.now.level ≤ k → k ≤ last_of self.now → value_at rows.new k ≡ entry a.now k) }
+        ensures put { OnOk result ((k : ℕ) → self.now.level ≤ k → k ≤ last_of self.now
+            → value_at rows.new k ≡ entry a.now k) }
     {
         let level = self.level();
         let end = self.last() + 1;
@@ -106,9 +109,11 @@ impl Table {
         requires rows { HasRows self.now rows.old }
         ensures first { MatchResult result
             (λ _. first_from self.now.level (generators self.now) (y_passes self.now b.now) ≡ None)
-            (λ at. option_map WideAt.RowY (first_from self.now.level (generators self.now) (y_passes self.now b.now)) ≡ Some at) }
+            (λ at. option_map WideAt.RowY
+            (first_from self.now.level (generators self.now) (y_passes self.now b.now)) ≡ Some at) }
         ensures rows { HasRows self.now rows.new }
-        ensures put { OnOk result ((k : ℕ) → self.now.level ≤ k → k ≤ last_of self.now → value_at rows.new (y_of k) ≡ entry b.now k) }
+        ensures put { OnOk result ((k : ℕ) → self.now.level ≤ k → k ≤ last_of self.now
+            → value_at rows.new (y_of k) ≡ entry b.now k) }
         ensures kept { OnOk result ((v : ℕ) → v < 64 → value_at rows.new v ≡ value_at rows.old v) }
     {
         let level = self.level();
@@ -127,11 +132,14 @@ impl Table {
         requires length { length sums.old ≡ 48 }
         requires rows { HasRows self.now rows.now }
         ensures first { MatchResult result
-            (λ _. first_from self.now.level (generators self.now) (λ k. sum_passes (value_at rows.now) (poly_at self.now k)) ≡ None)
-            (λ at. option_map WideAt.Sum (first_from self.now.level (generators self.now) (λ k. sum_passes (value_at rows.now) (poly_at self.now k))) ≡ Some at) }
+            (λ _. first_from self.now.level (generators self.now)
+            (λ k. sum_passes (value_at rows.now) (poly_at self.now k)) ≡ None)
+            (λ at. option_map WideAt.Sum (first_from self.now.level (generators self.now)
+            (λ k. sum_passes (value_at rows.now) (poly_at self.now k))) ≡ Some at) }
         ensures length { length sums.new ≡ 48 }
         ensures sums { OnOk result ((k : ℕ) → self.now.level ≤ k → k ≤ last_of self.now
-            → (entry sums.new k ≡ value_of (value_at rows.now) (poly_at self.now k)) × (unsigned_abs (entry sums.new k) < 2 ^ 127)) }
+            → (entry sums.new k ≡ value_of (value_at rows.now) (poly_at self.now k))
+            × (unsigned_abs (entry sums.new k) < 2 ^ 127)) }
     {
         let level = self.level();
         let end = self.last() + 1;

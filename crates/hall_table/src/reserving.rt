@@ -16,7 +16,8 @@ impl Table {
 
     // The top of a variable's row.
     fn top(&self, variable: u32) -> Top
-        ensures top { result ≡ record { var = variable; top = max (greatest_in variable self.now.polys) 1 } }
+        ensures top { result
+            ≡ record { var = variable; top = max (greatest_in variable self.now.polys) 1 } }
         ensures small { result.top ≤ 1000 }
     {
         Top {

@@ -33,14 +33,15 @@ impl Table {
     ghost use Rattle.hall_table.specs.Tabled.{IsTabled, AreShaped, IsFirstUnshaped, last_of, poly_at};
     ghost use Rattle.hall_table.specs.Tail.{at_level, tail_of};
 
-    /// The table of the polynomials from a level on.
+    /// The table of the polynomials from a level on. A flat table takes no memory.
     pub fn of(_alloc: Global, level: u32, polys: Vec<Poly>) -> Result<Table, TableOfFault>
         requires least { 1 ≤ level }
         requires nonempty { 0 < length polys.items }
         requires most { level + length polys.items ≤ 49 }
         ensures table { IfOk result (λ t. t ≡ record { level = level; polys = polys.items }) }
         ensures shaped { OnOk result (AreShaped level polys.items) }
-        ensures unshaped { IfErr result (λ fault. (k : ℕ) → fault ≡ TableOfFault.Shape k → IsFirstUnshaped level polys.items k) }
+        ensures unshaped { IfErr result (λ fault. (k : ℕ) → fault ≡ TableOfFault.Shape k
+            → IsFirstUnshaped level polys.items k) }
     {
         for (place, poly) in polys.iter().enumerate() {
             let k = level + place as u32;
