@@ -1,6 +1,6 @@
 -- Lines in front of others.
 use Rattle.std.proofs.Common.{◌≡◌, ℕ, ◌==◌, Bool, cond, true, false, List, [], ◌∷◌, ◌++◌, refl, sym, subst, ◌∙◌, ap}
-use Rattle.std.specs.List.{slice_split, onto_first}
+use Rattle.std.specs.List.{onto_first}
 use Rattle.query_session.specs.Pieces.{lines_of, but_last, whole_lines}
 
 -- a list that begins with an element

@@ -1,10 +1,10 @@
 -- The replies that are computed are the right ones.
-use Rattle.std.proofs.Common.{◌≡◌, ℕ, suc, ◌<◌, ◌≤◌, ◌==◌, nat_lt, Bool, cond, true, false, ℤ, List, [], ◌∷◌, ◌++◌, All, length, Option, Some, None, refl, sym, ◌∙◌, ap, subst, inl, inr, codes, arith}
+use Rattle.std.proofs.Common.{◌≡◌, ℕ, ◌≤◌, ◌==◌, nat_lt, Bool, cond, true, false, ℤ, List, [], ◌∷◌, length, Option, Some, None, refl, inl, inr, codes, arith}
 use Rattle.std.proofs.lemmas.Bool.{ltb-true, ltb-false}
 use Rattle.std.proofs.lemmas.Bool.Decides.{nat_tests}
 use Rattle.nil_word.specs.declared.letter.Letter.{Letter}
-use Rattle.nil_word.specs.Words.{IsVector, ordered}
-use Rattle.nil_word.specs.Congruence.{Congruent, StandsFor, IsConsistent}
+use Rattle.nil_word.specs.Words.{IsVector}
+use Rattle.nil_word.specs.Congruence.{StandsFor}
 use Rattle.nil_pres.specs.Presented.{Presented}
 use Rattle.query_session.specs.declared.factor.Factor.{Factor}
 use Rattle.query_session.specs.Pieces.{as_line}

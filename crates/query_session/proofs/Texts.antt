@@ -1,11 +1,11 @@
 -- The texts of vectors, and of replies in a row.
 --   spaced es   each entry behind a space
-use Rattle.std.proofs.Common.{◌≡◌, ℕ, suc, ◌+◌, ◌<◌, ◌≤◌, nat_lt, drop, get_or, drop-cons, drop_of_length-le, arith, ◌==◌, Bool, cond, true, false, ◌⊎◌, inl, inr, ℤ, List, [], ◌∷◌, ◌++◌, length, map, refl, sym, ◌∙◌, ap, append_assoc, append-nil, subst, codes}
+use Rattle.std.proofs.Common.{◌≡◌, ℕ, suc, ◌+◌, ◌<◌, ◌≤◌, nat_lt, drop, get_or, drop-cons, drop_of_length-le, arith, ◌==◌, Bool, cond, true, false, inl, inr, ℤ, List, [], ◌∷◌, ◌++◌, length, map, refl, sym, ◌∙◌, ap, append_assoc, append-nil, subst, codes}
 use Rattle.std.proofs.lemmas.Bool.Decides.{nat_tests}
 use Rattle.std.specs.List.{join_with_byte}
 use Rattle.std.specs.Fmt.{signed_decimal}
 use Rattle.nil_pres.specs.Presented.{Presented}
-use Rattle.query_session.specs.Pieces.{as_line, but_last}
+use Rattle.query_session.specs.Pieces.{as_line}
 use Rattle.query_session.specs.Limits.{line_limit}
 use Rattle.query_session.specs.Factors.{factors}
 use Rattle.query_session.specs.Replies.{entry_text, factors_text, reply, replies}

@@ -1,14 +1,13 @@
 -- What is written is the output of the status, or a front of it.
-use Rattle.std.proofs.Common.{◌≡◌, ◌∙◌, ℕ, List, [], ◌∷◌, ◌++◌, Option, Some, None, refl, sym, ap, subst, append_assoc, append-nil, inl, inr}
-use Rattle.std.specs.Io.KnownBytes.{Appends, Consumes}
+use Rattle.std.proofs.Common.{◌≡◌, ◌∙◌, ℕ, List, [], ◌∷◌, ◌++◌, Option, sym, ap, subst, append_assoc, append-nil}
+use Rattle.std.specs.Io.KnownBytes.{Appends}
 use Rattle.nil_pres.specs.Presented.{Presented}
 use Rattle.query_session.specs.declared.status.Status.{Status}
-use Rattle.query_session.specs.declared.status.Status.TheVariants as s
 use Rattle.query_session.specs.declared.stop.Stop.{Stop}
 use Rattle.query_session.specs.Pieces.{lines_of, whole_lines}
 use Rattle.query_session.specs.Replies.{reply, replies}
 use Rattle.query_session.specs.Writing.{IsStopped, failed, short, EndsAtLine, Ended, ended, stopped, stop_status}
-use Rattle.query_session.specs.Runs.{Asked, Fed, IsFileRefused, bad_file, outside, IsRefused, usage, shelf_failed, shelf_long, in_file, IsOutput, refused, done, source_failed, source_long, IsCut, answering, Wrote}
+use Rattle.query_session.specs.Runs.{Asked, Fed, IsFileRefused, bad_file, outside, IsRefused, usage, shelf_failed, shelf_long, in_file, IsOutput, refused, done, source_failed, source_long, answering, Wrote}
 use Rattle.query_session.proofs.Appending.{Appends-both}
 use Rattle.query_session.proofs.Lines.{lines_of-split}
 use Rattle.query_session.proofs.Texts.{replies-append, EndsAtLine-append, EndsAtLine-replies}

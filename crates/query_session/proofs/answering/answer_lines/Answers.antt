@@ -1,5 +1,4 @@
-use Rattle.std.proofs.Common.{◌≡◌, ℕ, ◌≤◌, List, ◌∷◌, [], Option, subst, arith, MatchOption}
-use Rattle.query_session.specs.Pieces.{lines_of}
+use Rattle.std.proofs.Common.{arith}
 use Rattle.query_session.proofs.Answered.{HasAnswered-more, HasAnswered-stop, HasAnswered-all, HasAnswered-rest}
 use Rattle.query_session.proofs.answering.answer_lines.Goals as goal
 

@@ -1,5 +1,4 @@
 use Rattle.query_session.specs.Pieces.{whole_lines}
-use Rattle.query_session.specs.Replies.{replies}
 use Rattle.query_session.specs.Writing.{ended}
 use Rattle.query_session.proofs.Appending.{Appends-both}
 use Rattle.query_session.proofs.Texts.{EndsAtLine-replies}

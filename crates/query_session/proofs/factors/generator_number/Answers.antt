@@ -1,4 +1,4 @@
-use Rattle.std.proofs.Common.{◌≡◌, ◌-◌, arith, sym, ◌∙◌}
+use Rattle.std.proofs.Common.{arith}
 use Rattle.std.specs.Str.{bytes_eq}
 use Rattle.query_session.proofs.Finding.{position_from-found, position_from-passed}
 use Rattle.query_session.proofs.factors.generator_number.Goals as goal

@@ -1,4 +1,4 @@
-use Rattle.std.proofs.Common.{◌≡◌, ◌≤◌, ◌-◌, ◌^◌, drop, true, take}
+use Rattle.std.proofs.Common.{◌≡◌, ◌≤◌, ◌-◌, ◌^◌, drop}
 use Rattle.std.specs.List.{list_all}
 use Rattle.line_tokens.specs.Tokens.{number_from, is_digit}
 use Rattle.query_session.proofs.factors.read_magnitude.Given as goal

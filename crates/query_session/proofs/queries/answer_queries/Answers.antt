@@ -1,4 +1,4 @@
-use Rattle.std.proofs.Common.{◌≡◌, ℕ, ◌++◌, List, [], refl, subst, arith}
+use Rattle.std.proofs.Common.{ℕ, ◌++◌, List, [], refl, subst, arith}
 use Rattle.query_session.specs.declared.status.Status.TheVariants as s
 use Rattle.query_session.specs.Pieces.{lines_of, whole_lines, as_line}
 use Rattle.query_session.specs.Replies.{replies}

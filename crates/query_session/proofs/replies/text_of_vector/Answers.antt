@@ -1,4 +1,4 @@
-use Rattle.std.proofs.Common.{◌≡◌, ℕ, ◌+◌, ◌<◌, ◌≤◌, ◌++◌, ℤ, pos, List, drop, get_or, length, string_bytes, sym, ◌∙◌, ap, arith}
+use Rattle.std.proofs.Common.{ℕ, ◌+◌, ◌<◌, ◌≤◌, ◌++◌, ℤ, pos, List, drop, get_or, length, string_bytes, sym, ◌∙◌, ap, arith}
 use Rattle.query_session.specs.Replies.{entry_text}
 use Rattle.query_session.proofs.Texts.{rest_text, rest_text-more, rest_text-done}
 use Rattle.query_session.proofs.replies.text_of_vector.Goals as goal
