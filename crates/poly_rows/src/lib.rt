@@ -3,6 +3,10 @@
 #![tactic(auto)]
 
 #[cfg(test)]
+mod monomials;
+#[cfg(test)]
+mod products;
+#[cfg(test)]
 mod quotients;
 #[cfg(test)]
 mod values;
