@@ -9,4 +9,6 @@ mod products;
 #[cfg(test)]
 mod quotients;
 #[cfg(test)]
+mod sums;
+#[cfg(test)]
 mod values;

@@ -12,5 +12,6 @@ fn the_smaller_degree_comes_first(rt: HostRuntime) -> Result<(), Fail> {
     assert!(rt; !double.before(&single));
     assert_eq!(rt; double.degree(), 2);
     assert_eq!(rt; double.parts(), [Part { var: 1, exp: 2 }].as_slice());
+    assert_eq!(rt; double.copy(alloc)?.into_parts().as_slice(), double.parts());
     Ok(())
 }
