@@ -7,6 +7,8 @@ mod fixtures;
 #[cfg(test)]
 mod long;
 #[cfg(test)]
+mod own;
+#[cfg(test)]
 mod refusals;
 #[cfg(test)]
 mod rows;
