@@ -42,8 +42,10 @@ fn word_kind<V: Vocabulary>(vocabulary: &V, run: &[u8]) -> Kind
 /// The token at the front of bytes, and how many bytes it takes behind the first.
 fn token_of<V: Vocabulary>(vocabulary: &V, bytes: &[u8]) -> (Kind, usize)
     requires { 0 < length bytes.now }
-    ensures token { result.0 ≡ (token_at (V.word vocabulary.now) (slice_index bytes.now 0) (drop 1 bytes.now)).0 }
-    ensures width { result.1 ≡ (token_at (V.word vocabulary.now) (slice_index bytes.now 0) (drop 1 bytes.now)).1 }
+    ensures token { result.0 ≡ (token_at (V.word vocabulary.now) (slice_index bytes.now 0)
+        (drop 1 bytes.now)).0 }
+    ensures width { result.1 ≡ (token_at (V.word vocabulary.now) (slice_index bytes.now 0)
+        (drop 1 bytes.now)).1 }
     ensures within { result.1 < length bytes.now }
 {
     let byte = bytes[0];

@@ -10,7 +10,8 @@ const MAX: u128 = 0x7fff_ffff_ffff_ffff_ffff_ffff_ffff_ffff;
 
 /// The number of digits, where it is at most 2^127 - 1.
 fn magnitude(digits: &[u8]) -> Option<u128>
-    ensures { result ≡ cond (nat_le (number_from 0 digits.now) (2 ^ 127 - 1)) (Some (number_from 0 digits.now)) None }
+    ensures { result ≡ cond (nat_le (number_from 0 digits.now) (2 ^ 127 - 1))
+        (Some (number_from 0 digits.now)) None }
 {
     let mut n = 0u128;
     for byte in digits {

@@ -31,4 +31,6 @@ AreUpTo high right = All (λ s. s.number ≤ high) right
 
 abbrev pub IsRight : ℕ → ℕ → List Syllable → Type 0
 IsRight low high [] = Unit {0}
-IsRight low high (s ∷ rest) = (low < s.number) × (s.number ≤ high) × (s.exp ≢ pos 0) × (unsigned_abs s.exp ≤ 2 ^ 63 - 1) × IsRight s.number high rest
+IsRight low high (s ∷ rest) =
+    (low < s.number) × (s.number ≤ high) × (s.exp ≢ pos 0) × (unsigned_abs s.exp ≤ 2 ^ 63 - 1)
+    × IsRight s.number high rest

@@ -20,5 +20,6 @@ pub fn relations()
 
 /// Of names that are all different each is found at its own place.
 pub fn names()
-    ensures { (names : List (List ℕ)) (k : ℕ) → AreNames names → k < length names → position (bytes_eq (slice_index_or names k [])) names ≡ Some k }
+    ensures { (names : List (List ℕ)) (k : ℕ) → AreNames names → k < length names
+        → position (bytes_eq (slice_index_or names k [])) names ≡ Some k }
 {}

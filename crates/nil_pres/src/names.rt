@@ -33,7 +33,8 @@ pub(crate) fn put_name(
     name: &str,
 ) -> Result<(), Memory>
     requires { list_any (bytes_eq name.now) (map string_bytes names.old.keys) ≡ false }
-    ensures ok { OnOk result (map string_bytes names.new.keys ≡ map string_bytes names.old.keys ++ name.now ∷ []) }
+    ensures ok { OnOk result (map string_bytes names.new.keys ≡ map string_bytes names.old.keys
+        ++ name.now ∷ []) }
     ensures err { OnErr result (map string_bytes names.new.keys ≡ map string_bytes names.old.keys) }
 {
     let text = String::from_str(alloc, name)?;
@@ -44,7 +45,8 @@ pub(crate) fn put_name(
 /// The number of the generator with a name.
 pub(crate) fn number_of(names: &IndexSet<String>, name: &str) -> Option<u32>
     requires { length (map string_bytes names.now.keys) ≤ 48 }
-    ensures { result ≡ option_map (λ i. i + 1) (position (bytes_eq name.now) (map string_bytes names.now.keys)) }
+    ensures { result ≡ option_map (λ i. i + 1) (position (bytes_eq name.now)
+        (map string_bytes names.now.keys)) }
 {
     match names.get_index_of(name) {
         Some(index) => Some(index as u32 + 1),

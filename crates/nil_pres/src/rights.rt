@@ -71,7 +71,8 @@ fn copy_row(
 
 /// The same right side, where there is one.
 fn copy_entry(alloc: Global, entry: &Option<Vec<Syllable>>) -> Result<Option<Vec<Syllable>>, Memory>
-    ensures { IfOk result (λ copy. option_map (λ right. right.items) copy ≡ option_map (λ right. right.items) entry.now) }
+    ensures { IfOk result (λ copy. option_map (λ right. right.items) copy ≡ option_map
+        (λ right. right.items) entry.now) }
 {
     match entry {
         Some(right) => Ok(Some(Vec::from_slice(alloc, right)?)),

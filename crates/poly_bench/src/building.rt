@@ -23,7 +23,7 @@ fn one_and(alloc: Global, first: u32, count: u32) -> Result<Poly, PolyFault>
 }
 
 /// That sum to the power `exponent`.
-pub fn power(alloc: Global, first: u32, count: u32, exponent: u32) -> Result<Poly, PolyFault>
+pub(crate) fn power(alloc: Global, first: u32, count: u32, exponent: u32) -> Result<Poly, PolyFault>
     requires positive { 1 ≤ first }
     requires variables { first + count ≤ 49 }
 {

@@ -23,7 +23,12 @@ impl fmt::Display for Product {
 
 /// The power of 1 plus the first `count` variables times that of 1 plus the `count` variables from
 /// `second`.
-pub fn multiply(alloc: Global, count: u32, exponent: u32, second: u32) -> Result<Product, PolyFault>
+pub(crate) fn multiply(
+    alloc: Global,
+    count: u32,
+    exponent: u32,
+    second: u32,
+) -> Result<Product, PolyFault>
     requires first { 1 + count ≤ 49 }
     requires positive { 1 ≤ second }
     requires variables { second + count ≤ 49 }

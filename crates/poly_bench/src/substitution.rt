@@ -30,7 +30,7 @@ impl fmt::Display for Substitution {
 
 /// Squares of 1 plus `count` variables each, put in place of x1, x2 and x3 in the product of the
 /// square of 1 + x4 + x5 + x6 and 1 + x1 + x2 + x3 to the power `exponent`.
-pub fn put_three(alloc: Global, exponent: u32, count: u32) -> Result<Substitution, PolyFault>
+pub(crate) fn put_three(alloc: Global, exponent: u32, count: u32) -> Result<Substitution, PolyFault>
     requires { count ≤ 40 }
 {
     let into = mul(

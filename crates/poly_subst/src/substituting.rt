@@ -98,9 +98,11 @@ fn times_part(
     requires form { IsMonomial (part ∷ []) }
     requires rows { Serves list.now rows.now part }
     ensures product { IfOk result (λ q. q ≡ product_of product.now (factor_of list.now part)) }
-    ensures value { IfOk result (λ q. (a : ℕ → ℤ) → value_of a q ≡ value_of a product.now *ℤ choose (replaced list.now a part.var) part.exp) }
+    ensures value { IfOk result (λ q. (a : ℕ → ℤ)
+        → value_of a q ≡ value_of a product.now *ℤ choose (replaced list.now a part.var) part.exp) }
     ensures fits { OnOk result (¬ (ProductPasses product.now (factor_of list.now part))) }
-    ensures wide { IfErr result (λ fault. fault ≡ PolyFault.Wide → ProductPasses product.now (factor_of list.now part)) }
+    ensures wide { IfErr result (λ fault. fault ≡ PolyFault.Wide
+        → ProductPasses product.now (factor_of list.now part)) }
 {
     match place_of(list, part.var) {
         Some(place) => mul(alloc, product, rows[place].at(part.exp)),
@@ -116,9 +118,13 @@ fn expand(alloc: Global, list: &[Assign], rows: &[PowerRow], term: &Term) -> Res
     requires form { IsTerm term.now }
     requires rows { All (Serves list.now rows.now) term.now.monomial }
     ensures term { IfOk result (λ q. q ≡ term_of list.now term.now) }
-    ensures value { IfOk result (λ q. (a : ℕ → ℤ) → value_of a q ≡ term.now.coefficient *ℤ monomial_value (replaced list.now a) term.now.monomial) }
-    ensures fits { OnOk result (¬ (ExpandPasses list.now (constant_terms term.now.coefficient) term.now.monomial)) }
-    ensures wide { IfErr result (λ fault. fault ≡ PolyFault.Wide → ExpandPasses list.now (constant_terms term.now.coefficient) term.now.monomial) }
+    ensures value { IfOk result (λ q. (a : ℕ → ℤ)
+        → value_of a q ≡ term.now.coefficient *ℤ monomial_value
+        (replaced list.now a) term.now.monomial) }
+    ensures fits { OnOk result (¬ (ExpandPasses list.now
+        (constant_terms term.now.coefficient) term.now.monomial)) }
+    ensures wide { IfErr result (λ fault. fault ≡ PolyFault.Wide
+        → ExpandPasses list.now (constant_terms term.now.coefficient) term.now.monomial) }
 {
     let Ok(mut product) = constant(alloc, term.coefficient) else {
         return Err(PolyFault::Memory);

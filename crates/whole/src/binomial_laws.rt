@@ -15,5 +15,6 @@ pub fn binomials()
 
 /// The product of two binomial coefficients of `x` is a sum of binomial coefficients of `x`.
 pub fn product_rule()
-    ensures { (a : ℕ) → (b : ℕ) → (x : ℤ) → choose x a *ℤ choose x b ≡ sum_from (max a b) (min a b + 1) (λ k. pos (ways k a * ways a (k - b)) *ℤ choose x k) }
+    ensures { (a : ℕ) → (b : ℕ) → (x : ℤ) → choose x a *ℤ choose x b ≡ sum_from (max a b)
+        (min a b + 1) (λ k. pos (ways k a * ways a (k - b)) *ℤ choose x k) }
 {}
