@@ -43,7 +43,10 @@ impl<'a, R: Files> Shelf for FileShelf<'a, R> {
 
 impl<'a, R: Files> FileShelf<'a, R> {
     /// A shelf of the files of a runtime.
-    pub fn new(rt: &'a R) -> FileShelf<'a, R> {
+    pub fn new(rt: &'a R) -> FileShelf<'a, R>
+        ensures faults { result.faults ≡ 0 }
+        ensures longs { result.longs ≡ 0 }
+    {
         FileShelf {
             rt,
             faults: 0,

@@ -1,6 +1,6 @@
 //! A reader of std as a source.
 
-ghost use Rattle.std.specs.Prelude.{ℕ, List};
+ghost use Rattle.std.specs.Prelude.{◌≡◌, ℕ, List};
 ghost use Rattle.std.specs.declared.option.Option.{Option};
 
 use super::failed::Failed;
@@ -39,7 +39,11 @@ impl<R: Read> Source for InputSource<R> {
 
 impl<R: Read> InputSource<R> {
     /// A source over a reader.
-    pub fn new(reader: R) -> InputSource<R> {
+    pub fn new(reader: R) -> InputSource<R>
+        ensures reader { result.reader ≡ reader }
+        ensures faults { result.faults ≡ 0 }
+        ensures given { result.given ≡ 0 }
+    {
         InputSource {
             reader,
             faults: 0,

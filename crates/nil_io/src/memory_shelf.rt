@@ -25,7 +25,13 @@ impl Model for MemoryShelf {
 
     ghost Value = { FailingFiles };
 
-    ghost view = { λ s. record { files = views s.files.items; fail = s.fail.items; calls = s.calls; faults = s.faults; longs = s.longs } };
+    ghost view = { λ s. record {
+      files = views s.files.items;
+      fail = s.fail.items;
+      calls = s.calls;
+      faults = s.faults;
+      longs = s.longs;
+    } };
 }
 
 impl Shelf for MemoryShelf {

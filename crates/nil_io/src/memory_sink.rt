@@ -23,7 +23,13 @@ impl Model for MemorySink {
 
     ghost Value = { FailingRoom };
 
-    ghost view = { λ s. record { written = s.bytes.items; room = s.room; fail = s.fail.items; calls = s.calls; faults = s.faults } };
+    ghost view = { λ s. record {
+      written = s.bytes.items;
+      room = s.room;
+      fail = s.fail.items;
+      calls = s.calls;
+      faults = s.faults;
+    } };
 
     ghost invariant = { λ s. (vec_len s.bytes ≤ s.room) × (s.room ≤ vec_capacity s.bytes) };
 }
@@ -44,7 +50,8 @@ impl Sink for MemorySink {
         ensures some { 0 < length bytes.now → IfOk result (λ m. 1 ≤ m) }
         ensures bytes { WriteAppends (Some self.old.written) (Some self.new.written) result bytes.now }
         ensures cause { HasCause self.old.faults self.new.faults result }
-        ensures refused { IsErr result ↔ IsTrue (fails self.old.fail self.old.calls || nat_lt (self.old.room - length self.old.written) (length bytes.now)) }
+        ensures refused { IsErr result ↔ IsTrue (fails self.old.fail self.old.calls
+            || nat_lt (self.old.room - length self.old.written) (length bytes.now)) }
         ensures whole { IfOk result (λ m. m ≡ length bytes.now) }
         ensures call { self.new.calls ≡ next self.old.calls }
         ensures fail { self.new.fail ≡ self.old.fail }

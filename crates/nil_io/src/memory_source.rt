@@ -21,7 +21,14 @@ impl Model for MemorySource {
 
     ghost Value = { FailingStream };
 
-    ghost view = { λ s. record { left = s.pieces.left; piece = s.pieces.piece; given = s.pieces.given; fail = s.fail.items; calls = s.calls; faults = s.faults } };
+    ghost view = { λ s. record {
+      left = s.pieces.left;
+      piece = s.pieces.piece;
+      given = s.pieces.given;
+      fail = s.fail.items;
+      calls = s.calls;
+      faults = s.faults;
+    } };
 }
 
 impl Source for MemorySource {
@@ -43,7 +50,8 @@ impl Source for MemorySource {
         ensures cause { HasCause self.old.faults self.new.faults result }
         ensures count { Counts self.old.given self.new.given result }
         ensures refused { IsErr result ↔ IsTrue (fails self.old.fail self.old.calls) }
-        ensures piece { IfOk result (λ m. m ≡ min (min (length self.old.left) self.old.piece) (length buf.old)) }
+        ensures piece { IfOk result (λ m. m ≡ min (min (length self.old.left) self.old.piece)
+            (length buf.old)) }
         ensures call { self.new.calls ≡ next self.old.calls }
         ensures fail { self.new.fail ≡ self.old.fail }
         ensures kept { self.new.piece ≡ self.old.piece }

@@ -1,6 +1,6 @@
 //! A writer of std as a sink.
 
-ghost use Rattle.std.specs.Prelude.{◌<◌, ◌≤◌, ℕ, List, None, length, IfSome};
+ghost use Rattle.std.specs.Prelude.{◌≡◌, ◌<◌, ◌≤◌, ℕ, List, None, length, IfSome};
 ghost use Rattle.std.specs.declared.option.Option.{Option};
 
 use super::failed::Failed;
@@ -33,7 +33,10 @@ impl<W: Write> Sink for OutputSink<W> {
 
 impl<W: Write> OutputSink<W> {
     /// A sink over a writer.
-    pub fn new(writer: W) -> OutputSink<W> {
+    pub fn new(writer: W) -> OutputSink<W>
+        ensures writer { result.writer ≡ writer }
+        ensures faults { result.faults ≡ 0 }
+    {
         OutputSink { writer, faults: 0 }
     }
 }

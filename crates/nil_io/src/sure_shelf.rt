@@ -38,15 +38,18 @@ impl Shelf for SureShelf {
     ghost longs = { λ s _ _. s.longs };
 
     fn read(&mut self, alloc: Global, name: &str, limit: u64) -> Result<Vec<u8>, ShelfFault>
-        ensures same { (n : List ℕ) → Some (told_or_empty self.new.files n) ≡ Some (told_or_empty self.old.files n) }
+        ensures same { (n : List ℕ) → Some (told_or_empty self.new.files n) ≡ Some
+            (told_or_empty self.old.files n) }
         ensures bytes { IfOk result (λ v. v.items ≡ told_or_empty self.old.files name.now) }
         ensures bound { IfOk result (λ v. vec_len v ≤ limit) }
         ensures told_long { IsErrOf result ShelfFault.Long →
             limit < length (told_or_empty self.old.files name.now) }
         ensures causes { ShelfCauses name.now limit (λ _. 0) (λ _. 0)
             (λ _ _. self.old.longs) (λ _ _. self.new.longs) result }
-        ensures refused { IfSome (fault_within limit (Some (told_or_empty self.old.files name.now))) (λ fault. IsErrOf result fault) }
-        ensures taken { IfNone (fault_within limit (Some (told_or_empty self.old.files name.now))) (IsOkUnless result ShelfFault.Memory) }
+        ensures refused { IfSome (fault_within limit (Some (told_or_empty self.old.files name.now)))
+            (λ fault. IsErrOf result fault) }
+        ensures taken { IfNone (fault_within limit (Some (told_or_empty self.old.files name.now)))
+            (IsOkUnless result ShelfFault.Memory) }
     {
         let file = named(&self.files, name).unwrap_or(&[]);
         if file.len() as u64 > limit {

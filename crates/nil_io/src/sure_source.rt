@@ -38,7 +38,8 @@ impl Source for SureSource {
         ensures bytes { ReadConsumes (Some self.old.left) (Some self.new.left) result buf.new }
         ensures cause { HasCause 0 0 result }
         ensures count { Counts self.old.given self.new.given result }
-        ensures piece { IsOkAnd result (λ m. m ≡ min (min (length self.old.left) self.old.piece) (length buf.old)) }
+        ensures piece { IsOkAnd result (λ m. m ≡ min (min (length self.old.left) self.old.piece)
+            (length buf.old)) }
         ensures kept { self.new.piece ≡ self.old.piece }
     {
         Ok(self.pieces.give(buf))
