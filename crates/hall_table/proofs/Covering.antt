@@ -1,20 +1,19 @@
 -- The variables of a table's polynomials have rows of sufficient tops.
 --   level level · k generator · v variable · m monomial · p polynomial · ps polynomials · t table
-use Rattle.std.proofs.Common.{◌≡◌, ◌≢◌, ℕ, zero, suc, ◌+◌, ◌-◌, ◌<◌, ◌≤◌, Bool, true, false, cond, List, [], ◌∷◌, length, get_or, refl, sym, ap, ◌∙◌, subst, arith, ◌⊎◌, inl, inr, eqb}
-use Rattle.std.specs.Prelude.{max, All, IsTrue, ◌&&◌, ◌||◌}
-use Rattle.std.proofs.lemmas.Bool.{cases_Bool, false≢true, eq-eqb, eqb-true}
+use Rattle.std.proofs.Common.{◌≡◌, ◌≢◌, ℕ, zero, suc, ◌+◌, ◌-◌, ◌<◌, ◌≤◌, Bool, true, cond, List, [], ◌∷◌, length, get_or, refl, sym, ap, ◌∙◌, subst, arith, inl, inr, eqb}
+use Rattle.std.specs.Prelude.{max, All, IsTrue}
+use Rattle.std.proofs.lemmas.Bool.{cases_Bool, eqb-true}
 use Rattle.std.proofs.lemmas.Bool.Decides.{nat_tests}
 use Rattle.std.proofs.lemmas.List.Elements.{All-head, All-tail, All-cons, All-nil, All-weaker}
-use lib.IntN.{ℤ, pos}
 use Rattle.binom_poly.specs.declared.part.Part.{Part}
 use Rattle.binom_poly.specs.declared.term.Term.{Term}
 use Rattle.binom_poly.specs.Monomial.{IsMonomialAbove, exponent_of}
-use Rattle.binom_poly.specs.Polynomial.{IsTerm, IsPolynomial}
+use Rattle.binom_poly.specs.Polynomial.{IsTerm}
 use Rattle.binom_poly.specs.Reading.{Reading}
 use Rattle.binom_poly.specs.Readings.{width_at, IsCoveredMonomial, IsCovered}
 use Rattle.binom_poly.proofs.Sorting.{polynomial_terms}
 use Rattle.binom_poly.proofs.Unique.{exponent_here, exponent_later}
-use Rattle.hall_table.specs.Shape.{y_of, alone, is_alone, is_lower, AreLower, HasShape}
+use Rattle.hall_table.specs.Shape.{y_of, alone, is_alone, is_lower, AreLower}
 use Rattle.hall_table.specs.Tabled.{Tabled, IsTabled, last_of, poly_at}
 use Rattle.hall_table.specs.Width.{greatest_exponent, greatest_in, has_row, width_for, HasRows}
 use Rattle.hall_table.proofs.Shapes.{alone_is, not_alone}

@@ -1,6 +1,6 @@
 -- The table from a higher level on: what it meets, and its values.
 --   level level · k generator · m monomial · p polynomial · ps polynomials · t table · a point
-use Rattle.std.proofs.Common.{◌≡◌, ◌≢◌, ℕ, zero, suc, ◌+◌, ◌-◌, ◌<◌, ◌≤◌, Bool, true, false, cond, ℤ, pos, List, [], ◌∷◌, length, get_or, take, drop, map, refl, sym, ap, ◌∙◌, subst, arith, ◌⊎◌, inl, inr, length-drop}
+use Rattle.std.proofs.Common.{◌≡◌, ℕ, ◌+◌, ◌-◌, ◌<◌, ◌≤◌, Bool, true, false, cond, ℤ, pos, List, [], ◌∷◌, length, get_or, take, drop, map, refl, sym, ap, ◌∙◌, subst, arith, inl, inr, length-drop}
 use Rattle.std.specs.Prelude.{All, ◌&&◌}
 use Rattle.std.proofs.lemmas.Bool.{cases_Bool, false≢true}
 use Rattle.std.proofs.lemmas.List.{get_or-map, length-map, get_or-drop, take_all}
@@ -15,7 +15,7 @@ use Rattle.binom_poly.specs.Monomial.{IsMonomialAbove}
 use Rattle.binom_poly.specs.Polynomial.{monomial_value, value_of, IsTerm, IsPolynomial}
 use Rattle.binom_poly.proofs.Sorting.{polynomial_terms}
 use Rattle.hall_table.specs.Shape.{HasShape}
-use Rattle.hall_table.specs.Tabled.{Tabled, IsTabled, last_of, poly_in, poly_at}
+use Rattle.hall_table.specs.Tabled.{Tabled, IsTabled, last_of, poly_at}
 use Rattle.hall_table.specs.Tail.{is_from, is_kept, from_level, tail_of, at_level}
 use Rattle.hall_table.proofs.Tails.{HasShape-from_level, IsPolynomial-filter}
 
@@ -34,6 +34,13 @@ poly_at-tail_of t level k a b h =
 
 length-tail : (level d : ℕ) (ps : List (List Term)) → length (map (from_level level) (drop d ps)) ≡ length ps - d
 length-tail level d ps = length-map (drop d ps) (from_level level) ∙ length-drop d ps
+
+pub last_of-tail_of : (t : Tabled) (level : ℕ) → IsTabled t → t.level ≤ level → level ≤ last_of t
+    → last_of (tail_of t level) ≡ last_of t
+last_of-tail_of t level h a b =
+    let n = length-tail level (level - t.level) t.polys in
+    let nonempty : 0 < length t.polys = h.nonempty in
+    omega arith
 
 pub IsTabled-tail_of : (t : Tabled) (level : ℕ) → IsTabled t → t.level ≤ level → level ≤ last_of t
     → IsTabled (tail_of t level)

@@ -1,31 +1,21 @@
 -- What the loops of a product keep.
 --   t table · place the variable of a generator · v a b vectors · k j generators · x number
-use Rattle.std.proofs.Common.{◌≡◌, ◌≢◌, ℕ, zero, suc, ◌+◌, ◌-◌, ◌^◌, ◌<◌, ◌≤◌, Bool, true, false, cond, List, [], ◌∷◌, length, get_or, set, map, refl, sym, ap, ◌∙◌, subst, arith, ◌⊎◌, inl, inr, below_more, get_or-set_same, get_or-set_other}
-use Rattle.std.specs.Prelude.{unsigned_abs, Option, Some, None, Result, Ok, Err, option_map, slice_get}
+use Rattle.std.proofs.Common.{◌≡◌, ◌≢◌, ℕ, ◌+◌, ◌-◌, ◌^◌, ◌<◌, ◌≤◌, Bool, true, false, cond, List, length, map, sym, ap, ◌∙◌, subst, arith, below_more}
+use Rattle.std.specs.Prelude.{unsigned_abs, Some, None, option_map, slice_get}
 use Rattle.std.proofs.lemmas.Option.{get_or_from_slice_get}
-use Rattle.std.proofs.lemmas.Bool.{cases_Bool, false≢true}
-use Rattle.std.proofs.lemmas.Bool.Decides.{nat_tests}
-use Rattle.std.proofs.lemmas.List.Elements.{All-weaker}
 use lib.IntN.{ℤ, pos}
 use lib.Dec.{ltb}
-use Rattle.std.proofs.Math.ListN.{length-set}
 use Rattle.nil_word.specs.Exponents.{entry, numbers}
 use Rattle.hall_law.proofs.Entries.{same_entries, length-map_numbers, entry-map_numbers}
-use Rattle.binom_poly.specs.declared.part.Part.{Part}
-use Rattle.binom_poly.specs.declared.term.Term.{Term}
 use Rattle.binom_poly.specs.Polynomial.{value_of}
 use Rattle.binom_poly.specs.Reading.{Reading}
-use Rattle.binom_poly.specs.Readings.{value_at, width_at, with_value, magnitude_of}
+use Rattle.binom_poly.specs.Readings.{value_at, width_at, with_value}
 use Rattle.hall_table.specs.declared.wide_at.WideAt.{WideAt}
-use Rattle.hall_table.specs.declared.wide_at.WideAt.TheVariants.{RowX, RowY, Sum}
-use Rattle.hall_table.specs.Shape.{y_of, is_lower, AreLower}
 use Rattle.hall_table.specs.Tabled.{Tabled, IsTabled, last_of, poly_at}
-use Rattle.hall_table.specs.Values.{point_of, values}
 use Rattle.hall_table.specs.Width.{width_for, HasRows}
-use Rattle.hall_table.specs.Order.{first_from, generators, named, row_passes, sum_passes, x_passes, y_passes, sum_at_passes, multiplied}
+use Rattle.hall_table.specs.Order.{first_from, generators, row_passes, sum_passes}
 use Rattle.hall_table.proofs.Orders.{first_found, first_none}
-use Rattle.hall_table.proofs.Covering.{poly_lower}
-use Rattle.hall_table.proofs.Putting.{HasRows-with_value, value-same, value-other, Agree, value-agree, magnitude-agree}
+use Rattle.hall_table.proofs.Putting.{HasRows-with_value, value-same, value-other}
 
 -- ---- rows
 pub record PutSoFar (t : Tabled) (place : ℕ → ℕ) (v : List ℤ) (rows : List Reading) (k : ℕ) : Type 0 where

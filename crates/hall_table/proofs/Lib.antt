@@ -8,3 +8,5 @@ pub mod Orders
 pub mod Widths
 pub mod Greatest
 pub mod Dropping
+pub mod Splitting
+pub mod Entries

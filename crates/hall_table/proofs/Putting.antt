@@ -1,6 +1,6 @@
 -- Rows after a value is put, and values at equal points.
 --   v u variables · x number · t table · a b points · m monomial · p polynomial
-use Rattle.std.proofs.Common.{◌≡◌, ◌≢◌, ℕ, zero, suc, ◌+◌, ◌-◌, ◌^◌, ◌<◌, ◌≤◌, Bool, true, false, cond, List, [], ◌∷◌, length, get_or, refl, sym, ap, ◌∙◌, subst, arith, ◌⊎◌, inl, inr, eqb, get_or-set_same, get_or-set_other}
+use Rattle.std.proofs.Common.{◌≡◌, ◌≢◌, ℕ, ◌+◌, ◌^◌, ◌<◌, ◌≤◌, List, [], ◌∷◌, refl, sym, ap, ◌∙◌, subst, arith, inl, inr, eqb, get_or-set_same, get_or-set_other}
 use Rattle.std.specs.Prelude.{All, unsigned_abs}
 use Rattle.std.proofs.lemmas.Bool.{cases_Bool, eqb-true, false≢true, eq-eqb}
 use Rattle.std.proofs.lemmas.List.Elements.{All-head, All-tail}
@@ -48,7 +48,7 @@ value-other rows new v u x h e = ap (λ rs. value_at rs u) e ∙ ap (λ (r : Rea
 abbrev pub Agree : (ℕ → ℤ) → (ℕ → ℤ) → List Part → Type 0
 Agree a b m = All (λ q. a q.var ≡ b q.var) m
 
-monomial-agree : (a b : ℕ → ℤ) (m : List Part) → Agree a b m → monomial_value a m ≡ monomial_value b m
+pub monomial-agree : (a b : ℕ → ℤ) (m : List Part) → Agree a b m → monomial_value a m ≡ monomial_value b m
 unfolding monomial_value
 monomial-agree a b [] h = refl
 monomial-agree a b (q ∷ m) h =

@@ -1,6 +1,6 @@
 -- The test of the shape decides it.
 --   v variable · k generator · m monomial · p polynomial
-use Rattle.std.proofs.Common.{◌≡◌, ◌≢◌, ℕ, zero, suc, ◌+◌, ◌<◌, ◌≤◌, Bool, true, false, cond, IsTrue, ◌||◌, ◌&&◌, ℤ, pos, List, [], ◌∷◌, length, get_or, drop, refl, sym, ap, ◌∙◌, subst, arith, ◌⊎◌, inl, inr, eqb, All}
+use Rattle.std.proofs.Common.{◌≡◌, ◌≢◌, ℕ, Bool, true, false, ◌||◌, ◌&&◌, ℤ, pos, List, [], ◌∷◌, get_or, refl, sym, ap, ◌∙◌, inl, inr, eqb}
 use Rattle.std.proofs.lemmas.Bool.{cases_Bool, false≢true, eq-eqb, eqb-true}
 use Rattle.std.specs.List.{list_all}
 use Rattle.std.specs.Bool.{MatchBool}
@@ -48,7 +48,7 @@ is_alone-alone v = both (eqb v v) true (eq-eqb v v refl) refl
 pub not_alone : (v : ℕ) (m : List Part) → is_alone v m ≡ false → m ≢ alone v
 not_alone v m h e = false≢true (sym h ∙ ap (is_alone v) e ∙ is_alone-alone v)
 
-none_alone : (v : ℕ) (m : List Part) → m ≢ alone v → is_alone v m ≡ false
+pub none_alone : (v : ℕ) (m : List Part) → m ≢ alone v → is_alone v m ≡ false
 none_alone v m h =
     elim (cases_Bool (is_alone v m)) [ inl b ↦ absurd (h (alone_is v m b)) | inr b ↦ b ]
 

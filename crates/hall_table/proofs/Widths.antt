@@ -1,22 +1,22 @@
 -- The widths that the tops of a table give.
 --   level level · k generator · v variable · ts tops · t table
-use Rattle.std.proofs.Common.{◌≡◌, ◌≢◌, ℕ, zero, suc, ◌+◌, ◌*◌, ◌-◌, ◌/◌, ◌%◌, ◌<◌, ◌≤◌, Bool, true, false, cond, List, [], ◌∷◌, ◌++◌, length, get_or, refl, sym, ap, ◌∙◌, subst, arith, ◌⊎◌, inl, inr, eqb}
-use Rattle.std.specs.Prelude.{max, All, ◌&&◌, ◌||◌}
-use Rattle.std.proofs.lemmas.Bool.{cases_Bool, false≢true, eq-eqb, eqb-true, le-leb}
+use Rattle.std.proofs.Common.{◌≡◌, ℕ, ◌+◌, ◌%◌, ◌≤◌, Bool, true, false, cond, List, [], ◌∷◌, ◌++◌, length, refl, sym, ap, ◌∙◌, subst, arith, inl, inr, eqb}
+use Rattle.std.specs.Prelude.{max, All}
+use Rattle.std.proofs.lemmas.Bool.{cases_Bool, false≢true, eqb-true}
 use Rattle.std.proofs.lemmas.Bool.Decides.{nat_tests}
 use Rattle.std.proofs.lemmas.List.Elements.{All-head, All-tail, All-push, All-from_get_or}
 use lib.IntN.{pos}
 use Rattle.binom_poly.specs.declared.part.Part.{Part}
 use Rattle.binom_poly.specs.declared.term.Term.{Term}
 use Rattle.binom_poly.specs.declared.top.Top.{Top}
-use Rattle.binom_poly.specs.Monomial.{IsMonomialAbove, IsVariable, is_variable, exponent_of}
+use Rattle.binom_poly.specs.Monomial.{IsMonomialAbove, IsVariable, exponent_of}
 use Rattle.binom_poly.specs.Polynomial.{IsTerm, IsPolynomial}
 use Rattle.binom_poly.specs.Reading.{Reading}
 use Rattle.binom_poly.specs.Readings.{width_in, width_of, reading_at}
 use Rattle.binom_poly.proofs.Sorting.{polynomial_terms}
 use Rattle.hall_table.specs.Shape.{y_of, is_lower}
 use Rattle.hall_table.specs.Tabled.{Tabled, IsTabled, last_of}
-use Rattle.hall_table.specs.Width.{greatest_exponent, greatest_in, has_row, width_for, HasRows}
+use Rattle.hall_table.specs.Width.{greatest_exponent, greatest_in, HasRows}
 
 -- ---- exponents are at most 1000
 exponent-small : (low : ℕ) (m : List Part) (v : ℕ) → IsMonomialAbove low m → exponent_of m v ≤ 1000

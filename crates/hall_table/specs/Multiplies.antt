@@ -3,9 +3,9 @@
 --   IsChecked c     the table's values are a multiplication table of the presentation at its level
 use Rattle.std.specs.Prelude.{◌≡◌, length}
 use Rattle.hall_law.specs.Table.{IsTable}
-use Rattle.nil_pres.specs.Presented.{Presented, IsPresented}
+use Rattle.nil_pres.specs.Presented.{Presented}
 use Rattle.nil_pres.specs.Relations.{relations_of}
-use Rattle.hall_table.specs.Tabled.{Tabled, IsTabled, last_of}
+use Rattle.hall_table.specs.Tabled.{Tabled, last_of}
 use Rattle.hall_table.specs.Values.{values}
 
 pub record Paired : Type 0 where

@@ -7,7 +7,7 @@
 --   IsFirstUnshaped level ps k    f_k is the first that hasn't
 --   IsTabled t                    what each table meets
 -- k generator · ps polynomials
-use Rattle.std.specs.Prelude.{ℕ, ◌+◌, ◌-◌, ◌<◌, ◌≤◌, List, [], All, length, slice_index_or}
+use Rattle.std.specs.Prelude.{ℕ, ◌+◌, ◌-◌, ◌<◌, ◌≤◌, List, [], length, slice_index_or}
 use Rattle.binom_poly.specs.declared.term.Term.{Term}
 use Rattle.binom_poly.specs.Polynomial.{IsPolynomial}
 use Rattle.hall_table.specs.Shape.{HasShape}

@@ -90,6 +90,7 @@ impl Table {
             polys,
         })
     }
+
     /// The table from a level on, with the variables below the level set to 0.
     pub fn tail(&self, alloc: Global, level: u32) -> Result<Table, Memory>
         requires least { self.now.level ≤ level }

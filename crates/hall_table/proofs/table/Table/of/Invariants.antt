@@ -1,4 +1,4 @@
-use Rattle.std.proofs.Common.{◌≡◌, ℕ, ◌+◌, ◌<◌, ◌≤◌, get_or, []}
+use Rattle.std.proofs.Common.{ℕ, ◌+◌, ◌<◌, ◌≤◌, get_or, []}
 use Rattle.binom_poly.specs.Polynomial.{IsPolynomial}
 use Rattle.hall_table.specs.Shape.{HasShape}
 use Rattle.hall_table.specs.Tabled.{poly_in}

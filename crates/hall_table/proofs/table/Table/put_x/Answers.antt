@@ -1,4 +1,4 @@
-use Rattle.std.proofs.Common.{rules, ◌≡◌, ◌≢◌, ℕ, ◌+◌, ◌∙◌, arith, ap, FitsSigned}
+use Rattle.std.proofs.Common.{rules, ◌+◌, arith, ap, FitsSigned}
 use Rattle.std.specs.Int.{w128}
 use Rattle.std.proofs.lemmas.Int.{to_z-of_z}
 use Rattle.hall_table.specs.declared.wide_at.WideAt.TheVariants.{RowX}

@@ -1,4 +1,3 @@
-use Rattle.hall_table.specs.Shape.{y_of}
 use Rattle.hall_table.proofs.Following.{PutSoFar}
 use Rattle.hall_table.proofs.table.Table.put_x.Given as goal
 

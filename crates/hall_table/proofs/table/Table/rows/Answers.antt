@@ -1,4 +1,4 @@
-use Rattle.std.proofs.Common.{◌≤◌, ◌+◌, sym, ◌∙◌, ap, subst, arith}
+use Rattle.std.proofs.Common.{◌≤◌, ◌+◌, sym, ap, subst, arith}
 use Rattle.std.specs.Prelude.{All}
 use Rattle.binom_poly.specs.Monomial.{IsVariable}
 use Rattle.binom_poly.specs.Reading.{Reading}

@@ -1,7 +1,6 @@
-use Rattle.std.proofs.Common.{refl, sym, ◌∙◌}
+use Rattle.std.proofs.Common.{refl}
 use Rattle.std.specs.Int.{w128}
 use Rattle.std.proofs.lemmas.Int.{to_z-of_z}
-use Rattle.binom_poly.specs.Readings.{with_value}
 use Rattle.hall_table.specs.Shape.{y_of}
 use Rattle.hall_table.proofs.Covering.{y_positive}
 use Rattle.hall_table.proofs.Orders.{put_fits, put_passes}

@@ -1,7 +1,7 @@
-use Rattle.std.proofs.Common.{◌≡◌, ℕ, ℤ, subst}
+use Rattle.std.proofs.Common.{◌≡◌, subst}
 use Rattle.binom_poly.specs.Polynomial.{value_of}
 use Rattle.hall_table.specs.Tabled.{Tabled, IsTabled, poly_at}
-use Rattle.hall_table.specs.Tail.{tail_of, at_level}
+use Rattle.hall_table.specs.Tail.{at_level}
 use Rattle.hall_table.proofs.Dropping.{tail_made, IsTabled-tail_of, value_of-tail_of}
 use Rattle.hall_table.proofs.table.Table.tail.Goals as goal
 
