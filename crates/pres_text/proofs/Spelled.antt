@@ -1,5 +1,5 @@
 -- The powers of a right side from their front.
-use Rattle.std.proofs.Common.{◌≡◌, ℕ, true, ℤ, pos, List, [], ◌∷◌, ◌++◌, length, ◌≤◌, arith, Option, Some, None, option_map, refl, sym, ◌∙◌, ap, append_assoc}
+use Rattle.std.proofs.Common.{◌≡◌, ℕ, ℤ, pos, List, [], ◌∷◌, ◌++◌, Option, Some, None, option_map, refl, sym, ◌∙◌, ap, append_assoc}
 use Rattle.line_tokens.specs.declared.kind.Kind.{Kind}
 use Rattle.line_tokens.specs.declared.kind.Kind.TheVariants.{Name, Integer, Star, Caret, SquareOpen, SquareClose, Comma, Equal}
 use Rattle.nil_pres.specs.declared.syllable.Syllable.{Syllable}

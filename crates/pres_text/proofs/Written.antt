@@ -1,10 +1,10 @@
 -- Texts that grow by one part.
-use Rattle.std.proofs.Common.{◌≡◌, ℕ, suc, ◌+◌, ◌≤◌, List, [], ◌∷◌, ◌++◌, length, take, drop, get_or, codes, refl, sym, ap, ◌∙◌, add-one, append_assoc, arith}
+use Rattle.std.proofs.Common.{◌≡◌, ℕ, ◌+◌, ◌≤◌, List, [], ◌∷◌, ◌++◌, length, take, drop, get_or, codes, refl, sym, ap, ◌∙◌, add-one, append_assoc, arith}
 use Rattle.std.specs.List.{flat_map}
 use Rattle.std.proofs.lemmas.List.{append-nil, drop_all}
 use Rattle.nil_pres.specs.declared.syllable.Syllable.{Syllable}
 use Rattle.nil_pres.specs.Presented.{Presented, right_side}
-use Rattle.pres_text.specs.Text.{name_of, power_text, right_text, line_text, pairs_text, relations_text, names_text}
+use Rattle.pres_text.specs.Text.{power_text, right_text, line_text, pairs_text}
 
 pub pairs_text-next : (p : Presented) (j i : ℕ) → pairs_text p j (i + 1) ≡ pairs_text p j i ++ line_text p.names j (i + 1) (right_side p j (i + 1))
 pairs_text-next p j i = rw (add-one i) refl

@@ -26,7 +26,9 @@ is_header (a ∷ b ∷ []) = bytes_eq a (codes "nilpotent") && bytes_eq b (codes
 is_header _ = false
 
 abbrev pub header_fault : List ℕ → Option FileKind
-header_fault text = broken (not (is_text text)) kind.NotText (broken (not (is_header (words text))) kind.Header None)
+header_fault text =
+    broken (not (is_text text)) kind.NotText
+    (broken (not (is_header (words text))) kind.Header None)
 
 abbrev pub name_fault : List (List ℕ) → List ℕ → Option FileKind
 name_fault names name =
@@ -91,7 +93,8 @@ spelled_fault given None = Some kind.Relation
 spelled_fault given (Some s) = relation_fault given s
 
 abbrev pub line_fault : List (List ℕ) → List Spelled → List ℕ → Option FileKind
-line_fault names given text = broken (not (is_text text)) kind.NotText (spelled_fault given (spelling_of names text))
+line_fault names given text =
+    broken (not (is_text text)) kind.NotText (spelled_fault given (spelling_of names text))
 
 abbrev pub at_line : ℕ → Option FileKind → Option PresFault → Option PresFault
 at_line n None later = later
@@ -105,11 +108,13 @@ with_given (Some s) given = s ∷ given
 abbrev pub relations_fault : List (List ℕ) → List Spelled → List Line → Option PresFault
 relations_fault names given [] = None
 relations_fault names given (l ∷ ls) =
-    at_line l.number (line_fault names given l.text) (relations_fault names (with_given (spelling_of names l.text) given) ls)
+    at_line l.number (line_fault names given l.text)
+    (relations_fault names (with_given (spelling_of names l.text) given) ls)
 
 abbrev pub second_fault : ℕ → List Line → Option PresFault
 second_fault end [] = Some (File end kind.Header)
-second_fault end (l ∷ ls) = at_line l.number (generators_fault l.text) (relations_fault (names_of l.text) [] ls)
+second_fault end (l ∷ ls) =
+    at_line l.number (generators_fault l.text) (relations_fault (names_of l.text) [] ls)
 
 abbrev pub lines_fault : ℕ → List Line → Option PresFault
 lines_fault end [] = Some (File end kind.Header)

@@ -23,14 +23,16 @@ pub record Spelled : Type 0 where
 
 -- the tokens of one power, before others
 pub data IsPower : List Kind → List Kind → Power → Type 0 where
-  plain : (g : ℕ) (rest : List Kind) → IsPower (k.Name g ∷ rest) rest (record { number = g; exponent = Some (pos 1) })
+  plain : (g : ℕ) (rest : List Kind) → IsPower (k.Name g ∷ rest) rest
+      (record { number = g; exponent = Some (pos 1) })
   raised : (g : ℕ) (is_one : Bool) (n : Option ℤ) (rest : List Kind)
       → IsPower (k.Name g ∷ k.Caret ∷ k.Integer is_one n ∷ rest) rest (record { number = g; exponent = n })
 
 -- one power or more, joined by *
 pub data ArePowers : List Kind → List Power → Type 0 where
   last : (ks : List Kind) (p : Power) → IsPower ks [] p → ArePowers ks (p ∷ [])
-  times : (ks more : List Kind) (p : Power) (ps : List Power) → IsPower ks (k.Star ∷ more) p → ArePowers more ps
+  times : (ks more : List Kind) (p : Power) (ps : List Power) → IsPower ks (k.Star ∷ more) p
+      → ArePowers more ps
       → ArePowers ks (p ∷ ps)
 
 pub data IsRightSide : List Kind → List Power → Type 0 where

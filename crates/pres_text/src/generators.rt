@@ -65,7 +65,8 @@ fn name_fault_at(line: u64, fault: NameFault) -> PresFault
 /// Adds a name.
 fn add_word(builder: &mut Builder, line: u64, word: &[u8]) -> Result<(), PresFault>
     requires { IsAscii word.now }
-    ensures fault { IfSome (name_fault builder.old.names word.now) (λ kind. IsErrOf result (PresFault.File line kind)) }
+    ensures fault { IfSome (name_fault builder.old.names word.now)
+        (λ kind. IsErrOf result (PresFault.File line kind)) }
     ensures fine { IfNone (name_fault builder.old.names word.now) (IsOkUnless result PresFault.Memory) }
     ensures ok { OnOk result (builder.new ≡ with_name builder.old word.now) }
 {
@@ -81,8 +82,10 @@ fn add_word(builder: &mut Builder, line: u64, word: &[u8]) -> Result<(), PresFau
 /// Adds the words of a text as names.
 fn add_words(builder: &mut Builder, line: u64, names: &[u8]) -> Result<(), PresFault>
     requires { IsAscii names.now }
-    ensures fault { IfSome (names_fault builder.old.names (words names.now)) (λ kind. Gives result (Err (PresFault.File line kind))) }
-    ensures fine { IfNone (names_fault builder.old.names (words names.now)) (IsOkUnless result PresFault.Memory) }
+    ensures fault { IfSome (names_fault builder.old.names (words names.now))
+        (λ kind. Gives result (Err (PresFault.File line kind))) }
+    ensures fine { IfNone (names_fault builder.old.names (words names.now))
+        (IsOkUnless result PresFault.Memory) }
     ensures ok { OnOk result (builder.new ≡ named builder.old (words names.now)) }
 {
     let mut rest = names;
@@ -98,7 +101,8 @@ fn add_words(builder: &mut Builder, line: u64, names: &[u8]) -> Result<(), PresF
 /// Adds the names of the second line.
 pub(super) fn add_generators(builder: &mut Builder, line: &Line) -> Result<(), PresFault>
     requires { builder.old.names ≡ [] }
-    ensures fault { IfSome (generators_fault line.now.text.now) (λ kind. Gives result (Err (PresFault.File line.now.number kind))) }
+    ensures fault { IfSome (generators_fault line.now.text.now)
+        (λ kind. Gives result (Err (PresFault.File line.now.number kind))) }
     ensures fine { IfNone (generators_fault line.now.text.now) (IsOkUnless result PresFault.Memory) }
     ensures ok { OnOk result (builder.new ≡ named builder.old (names_of line.now.text.now)) }
 {

@@ -4,6 +4,7 @@
 
 mod file_kind;
 mod generators;
+pub mod laws;
 mod lines;
 mod pres_fault;
 mod reading;

@@ -71,7 +71,8 @@ impl<'a> Lines<'a> {
     pub fn next_content(&mut self) -> Option<Line<'a>>
         ensures line { MatchOption result (content_from self.old.number (lines self.old.rest.now) ≡ [])
             (λ l. content_from self.old.number (lines self.old.rest.now) ≡ (record { number = l.number; text = l.text.now }) ∷ content_from self.new.number (lines self.new.rest.now)) }
-        ensures end { self.new.number + length (lines self.new.rest.now) ≡ self.old.number + length (lines self.old.rest.now) }
+        ensures end { self.new.number + length (lines self.new.rest.now) ≡ self.old.number + length
+            (lines self.old.rest.now) }
         ensures all { IfNone result (self.new.rest.now ≡ []) }
         ensures less { IfSome result (λ l. length self.new.rest.now < length self.old.rest.now) }
     {

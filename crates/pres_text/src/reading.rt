@@ -17,9 +17,14 @@ use std::alloc::Global;
 
 /// Reads the lines behind the header.
 fn read_second(alloc: Global, left: &mut Lines) -> Result<Builder, PresFault>
-    ensures fault { IfSome (second_drafted_fault (left.old.number + length (lines left.old.rest.now)) (content_from left.old.number (lines left.old.rest.now))) (λ f. Gives result (Err f)) }
-    ensures fine { IfNone (second_drafted_fault (left.old.number + length (lines left.old.rest.now)) (content_from left.old.number (lines left.old.rest.now))) (IsOkUnless result PresFault.Memory) }
-    ensures ok { IfOk result (λ b. b ≡ second_drafted (content_from left.old.number (lines left.old.rest.now))) }
+    ensures fault { IfSome (second_drafted_fault
+        (left.old.number + length (lines left.old.rest.now))
+        (content_from left.old.number (lines left.old.rest.now))) (λ f. Gives result (Err f)) }
+    ensures fine { IfNone (second_drafted_fault (left.old.number + length (lines left.old.rest.now))
+        (content_from left.old.number (lines left.old.rest.now)))
+        (IsOkUnless result PresFault.Memory) }
+    ensures ok { IfOk result (λ b. b ≡ second_drafted
+        (content_from left.old.number (lines left.old.rest.now))) }
 {
     let Some(line) = left.next_content() else {
         return Err(PresFault::File {
@@ -41,8 +46,10 @@ fn read_second(alloc: Global, left: &mut Lines) -> Result<Builder, PresFault>
 
 /// Reads all lines.
 fn read_lines(alloc: Global, bytes: &[u8]) -> Result<Builder, PresFault>
-    ensures fault { IfSome (all_drafted_fault (length (lines bytes.now) + 1) (content bytes.now)) (λ f. Gives result (Err f)) }
-    ensures fine { IfNone (all_drafted_fault (length (lines bytes.now) + 1) (content bytes.now)) (IsOkUnless result PresFault.Memory) }
+    ensures fault { IfSome (all_drafted_fault (length (lines bytes.now) + 1) (content bytes.now))
+        (λ f. Gives result (Err f)) }
+    ensures fine { IfNone (all_drafted_fault (length (lines bytes.now) + 1) (content bytes.now))
+        (IsOkUnless result PresFault.Memory) }
     ensures ok { IfOk result (λ b. b ≡ all_drafted (content bytes.now)) }
 {
     let mut left = Lines::new(bytes);

@@ -67,8 +67,10 @@ fn add_relation(
     requires above { relation.now.above ≤ length builder.old.names }
     requires below { relation.now.below ≤ length builder.old.names }
     requires right { AreUpTo (length builder.old.names) relation.now.right.items }
-    ensures fault { IfSome (clipped_fault line builder.old (spelled_seen relation.now)) (λ f. IsErrOf result f) }
-    ensures fine { IfNone (clipped_fault line builder.old (spelled_seen relation.now)) (IsOkUnless result PresFault.Memory) }
+    ensures fault { IfSome (clipped_fault line builder.old (spelled_seen relation.now))
+        (λ f. IsErrOf result f) }
+    ensures fine { IfNone (clipped_fault line builder.old (spelled_seen relation.now))
+        (IsOkUnless result PresFault.Memory) }
     ensures ok { OnOk result (builder.new ≡ with_clipped builder.old (spelled_seen relation.now)) }
 {
     if has_unknown(relation) {
@@ -86,7 +88,8 @@ fn add_relation(
 /// Adds the relation of a line.
 fn add_line(alloc: Global, builder: &mut Builder, line: &Line) -> Result<(), PresFault>
     ensures fault { IfSome (drafted_fault builder.old (line_seen line.now)) (λ f. Gives result (Err f)) }
-    ensures fine { IfNone (drafted_fault builder.old (line_seen line.now)) (IsOkUnless result PresFault.Memory) }
+    ensures fine { IfNone (drafted_fault builder.old (line_seen line.now))
+        (IsOkUnless result PresFault.Memory) }
     ensures ok { OnOk result (builder.new ≡ with_line builder.old (line_seen line.now)) }
 {
     if !is_text(line.text) {
@@ -114,9 +117,13 @@ pub(super) fn add_lines(
     builder: &mut Builder,
     left: &mut Lines,
 ) -> Result<(), PresFault>
-    ensures fault { IfSome (rest_fault builder.old (content_from left.old.number (lines left.old.rest.now))) (λ f. Gives result (Err f)) }
-    ensures fine { IfNone (rest_fault builder.old (content_from left.old.number (lines left.old.rest.now))) (IsOkUnless result PresFault.Memory) }
-    ensures ok { OnOk result (builder.new ≡ related builder.old (content_from left.old.number (lines left.old.rest.now))) }
+    ensures fault { IfSome (rest_fault builder.old
+        (content_from left.old.number (lines left.old.rest.now))) (λ f. Gives result (Err f)) }
+    ensures fine { IfNone (rest_fault builder.old
+        (content_from left.old.number (lines left.old.rest.now)))
+        (IsOkUnless result PresFault.Memory) }
+    ensures ok { OnOk result (builder.new ≡ related builder.old
+        (content_from left.old.number (lines left.old.rest.now))) }
 {
     'lines: while let Some(line) = left.next_content() {
         if let Err(fault) = add_line(alloc, builder, &line) {

@@ -37,7 +37,8 @@ fn exponent(value: Option<i128>) -> i64
 /// The power at the front of tokens, and those behind it.
 fn power(tokens: &[Token]) -> Option<(Syllable, &[Token])>
     ensures less { IfSome result (λ r. length r.1.now < length tokens.now) }
-    ensures power { option_map (λ r. (r.0, map (λ t. t.kind) r.1.now)) result ≡ powers_seen (power_by (map (λ t. t.kind) tokens.now)) }
+    ensures power { option_map (λ r. (r.0, map (λ t. t.kind) r.1.now)) result ≡ powers_seen
+        (power_by (map (λ t. t.kind) tokens.now)) }
 {
     match tokens {
         [
@@ -82,7 +83,8 @@ fn power(tokens: &[Token]) -> Option<(Syllable, &[Token])>
 
 /// The generators of the bracket at the front of tokens, and what stands behind the `=`.
 fn bracket(tokens: &[Token]) -> Option<(u32, u32, &[Token])>
-    ensures { option_map (λ r. (r.0, r.1, map (λ t. t.kind) r.2.now)) result ≡ bracket_by (map (λ t. t.kind) tokens.now) }
+    ensures { option_map (λ r. (r.0, r.1, map (λ t. t.kind) r.2.now)) result ≡ bracket_by
+        (map (λ t. t.kind) tokens.now) }
 {
     match tokens {
         [
@@ -135,7 +137,8 @@ fn behind_star(tokens: &[Token]) -> Option<&[Token]>
 
 /// The powers that tokens spell.
 fn powers(alloc: Global, tokens: &[Token]) -> Result<Option<Vec<Syllable>>, AllocError>
-    ensures { IfOk result (λ found. option_map (λ v. v.items) found ≡ option_map syllables_of (powers_by (map (λ t. t.kind) tokens.now))) }
+    ensures { IfOk result (λ found. option_map (λ v. v.items) found ≡ option_map syllables_of
+        (powers_by (map (λ t. t.kind) tokens.now))) }
 {
     let mut right = Vec::new(alloc);
     let mut rest = tokens;
@@ -156,7 +159,8 @@ fn powers(alloc: Global, tokens: &[Token]) -> Result<Option<Vec<Syllable>>, Allo
 
 /// The right side that tokens spell.
 fn right_side(alloc: Global, tokens: &[Token]) -> Result<Option<Vec<Syllable>>, AllocError>
-    ensures { IfOk result (λ found. option_map (λ v. v.items) found ≡ option_map syllables_of (right_by (map (λ t. t.kind) tokens.now))) }
+    ensures { IfOk result (λ found. option_map (λ v. v.items) found ≡ option_map syllables_of
+        (right_by (map (λ t. t.kind) tokens.now))) }
 {
     match tokens {
         [
@@ -174,7 +178,8 @@ pub(super) fn spelled(
     alloc: Global,
     tokens: &[Token],
 ) -> Result<Option<SpelledRelation>, AllocError>
-    ensures { IfOk result (λ found. option_map spelled_seen found ≡ option_map spelled_clipped (spelled_by (map (λ t. t.kind) tokens.now))) }
+    ensures { IfOk result (λ found. option_map spelled_seen found ≡ option_map spelled_clipped
+        (spelled_by (map (λ t. t.kind) tokens.now))) }
 {
     let Some((above, below, rest)) = bracket(tokens) else {
         return Ok(None);

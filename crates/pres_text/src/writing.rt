@@ -23,7 +23,8 @@ fn put_name(text: &mut String, pres: &Presentation, k: u32) -> Result<(), Memory
 fn put_power(text: &mut String, pres: &Presentation, syllable: Syllable) -> Result<(), Memory>
     requires least { 1 ≤ syllable.number }
     requires most { syllable.number ≤ length pres.now.names }
-    ensures { OnOk result (string_bytes text.new ≡ string_bytes text.old ++ power_text pres.now.names syllable) }
+    ensures { OnOk result (string_bytes text.new ≡ string_bytes text.old
+        ++ power_text pres.now.names syllable) }
 {
     put_name(text, pres, syllable.number)?;
     if syllable.exp == 1 {
@@ -37,7 +38,8 @@ fn put_power(text: &mut String, pres: &Presentation, syllable: Syllable) -> Resu
 fn put_right(text: &mut String, pres: &Presentation, right: &[Syllable]) -> Result<(), Memory>
     requires least { All (λ s. 1 ≤ s.number) right.now }
     requires most { AreUpTo (length pres.now.names) right.now }
-    ensures { OnOk result (string_bytes text.new ≡ string_bytes text.old ++ right_text pres.now.names right.now) }
+    ensures { OnOk result (string_bytes text.new ≡ string_bytes text.old
+        ++ right_text pres.now.names right.now) }
 {
     if right.is_empty() {
         return Ok(());
@@ -56,7 +58,8 @@ fn put_line(text: &mut String, pres: &Presentation, j: u32, i: u32) -> Result<()
     requires least { 1 ≤ i }
     requires below { i < j }
     requires most { j ≤ length pres.now.names }
-    ensures { OnOk result (string_bytes text.new ≡ string_bytes text.old ++ line_text pres.now.names j i (right_side pres.now j i)) }
+    ensures { OnOk result (string_bytes text.new ≡ string_bytes text.old
+        ++ line_text pres.now.names j i (right_side pres.now j i)) }
 {
     let right = pres.right_side(j, i);
     if right.is_empty() {
@@ -87,7 +90,8 @@ fn put_pairs(text: &mut String, pres: &Presentation, j: u32) -> Result<(), Memor
 
 /// Appends the lines of all pairs.
 fn put_relations(text: &mut String, pres: &Presentation) -> Result<(), Memory>
-    ensures { OnOk result (string_bytes text.new ≡ string_bytes text.old ++ relations_text pres.now (length pres.now.names)) }
+    ensures { OnOk result (string_bytes text.new ≡ string_bytes text.old
+        ++ relations_text pres.now (length pres.now.names)) }
 {
     'generators: for j in 0..pres.count() {
         put_pairs(text, pres, j + 1)?;
@@ -97,7 +101,8 @@ fn put_relations(text: &mut String, pres: &Presentation) -> Result<(), Memory>
 
 /// Appends the names, with a space before each.
 fn put_names(text: &mut String, pres: &Presentation) -> Result<(), Memory>
-    ensures { OnOk result (string_bytes text.new ≡ string_bytes text.old ++ names_text pres.now.names (length pres.now.names)) }
+    ensures { OnOk result (string_bytes text.new ≡ string_bytes text.old
+        ++ names_text pres.now.names (length pres.now.names)) }
 {
     'names: for k in 0..pres.count() {
         text.push_str(" ")?;

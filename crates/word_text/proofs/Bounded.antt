@@ -135,7 +135,7 @@ good_tokens n bytes s d raised (t ∷ ts) q e h =
       good_tokens n bytes well.1.0 (deeper d t.kind) (is_caret t.kind) ts q well.1.1 h.1,
     )
 
-read_shaped : (names : List (List ℕ)) (line : List ℕ) (q : Query) → ReadsAs names line q → IsShapedQuery (length names) q
+pub read_shaped : (names : List (List ℕ)) (line : List ℕ) (q : Query) → ReadsAs names line q → IsShapedQuery (length names) q
 read_shaped names line _ (blank silent) = tt
 read_shaped names line _ (says q said r) =
     line_shaped (length names) (kinds_of (query_tokens names line)) q r.line

@@ -1,12 +1,14 @@
 //! A token behind a whole expression.
 
-ghost use Rattle.std.specs.Prelude.{◌≡◌, [], ◌∷◌, reverse, option_map, IfOk, MatchOption};
-ghost use Rattle.word_text.specs.Machine.{next_close, next_comma, next_square_close, next_closing, next_part, after_equal, after_bar};
-ghost use Rattle.word_text.specs.Seen.{seen};
+ghost use Rattle.std.specs.Prelude.{◌≡◌, [], ◌∷◌, reverse, Some, None, cond, IfOk, MatchOption};
+ghost use Rattle.nil_word.specs.declared.expr.Expr.TheVariants.{Comm};
+ghost use Rattle.word_text.specs.declared.state.Head.{Head};
+ghost use Rattle.word_text.specs.Brackets.{in_round, in_square, in_second};
+ghost use Rattle.word_text.specs.Machine.{moved, next_close, next_comma, next_square_close, next_closing, next_part, after_equal, after_bar};
 
 use super::opening::push_frame;
 use super::phrases::{behind_atom, empty_level};
-use super::state::{Bracket, Frame, Head, Level, Now, Reader};
+use super::state::{Bracket, Frame, Head, Level, Now};
 use line_tokens::Kind;
 use nil_word::{Expr, Memory};
 use sqlite_items::{Boxed, Items};
@@ -14,149 +16,182 @@ use std::alloc::Global;
 
 /// The innermost bracket.
 fn pop_frame(frames: &mut Items<Frame>) -> Option<Frame>
-    ensures { MatchOption result (reverse frames.old ≡ []) (λ frame. reverse frames.old ≡ frame ∷ reverse frames.new) }
+    ensures { MatchOption result (reverse frames.old ≡ [])
+        (λ frame. reverse frames.old ≡ frame ∷ reverse frames.new) }
 {
     frames.pop()
 }
 
-/// A `)` behind an expression.
-fn step_close(
-    alloc: Global,
-    head: Head,
-    frames: Items<Frame>,
-    expr: Expr,
-) -> Result<Option<Reader>, Memory>
-    ensures { IfOk result (λ r. option_map seen r ≡ next_close head (reverse frames) expr) }
+/// The level around a round bracket.
+fn in_round(frame: Frame) -> Option<Level>
+    ensures { result ≡ in_round frame }
 {
-    let mut frames = frames;
-    match pop_frame(&mut frames) {
-        None => Ok(None),
-        Some(frame) => {
-            let Frame { level, bracket } = frame;
-            match bracket {
-                Bracket::Round => {
-                    let now = behind_atom(alloc, level, expr)?;
-                    Ok(Some(Reader { head, frames, now }))
-                }
-                _ => Ok(None),
-            }
-        }
-    }
-}
-
-/// A `,` behind an expression.
-fn step_comma(
-    alloc: Global,
-    head: Head,
-    frames: Items<Frame>,
-    expr: Expr,
-) -> Result<Option<Reader>, Memory>
-    ensures { IfOk result (λ r. option_map seen r ≡ next_comma head (reverse frames) expr) }
-{
-    let mut frames = frames;
-    match pop_frame(&mut frames) {
-        None => Ok(None),
-        Some(frame) => {
-            let Frame { level, bracket } = frame;
-            match bracket {
-                Bracket::Square => {
-                    push_frame(
-                        &mut frames,
-                        Frame {
-                            level,
-                            bracket: Bracket::Second(expr),
-                        },
-                    )?;
-                    let now = Now::Atom(empty_level(alloc));
-                    Ok(Some(Reader { head, frames, now }))
-                }
-                _ => Ok(None),
-            }
-        }
-    }
-}
-
-/// A `]` behind an expression.
-fn step_square_close(
-    alloc: Global,
-    head: Head,
-    frames: Items<Frame>,
-    expr: Expr,
-) -> Result<Option<Reader>, Memory>
-    ensures { IfOk result (λ r. option_map seen r ≡ next_square_close head (reverse frames) expr) }
-{
-    let mut frames = frames;
-    match pop_frame(&mut frames) {
-        None => Ok(None),
-        Some(frame) => {
-            let Frame { level, bracket } = frame;
-            match bracket {
-                Bracket::Second(first) => {
-                    let first = Boxed::new(alloc, first)?;
-                    let second = Boxed::new(alloc, expr)?;
-                    let now = behind_atom(alloc, level, Expr::Comm(first, second))?;
-                    Ok(Some(Reader { head, frames, now }))
-                }
-                _ => Ok(None),
-            }
-        }
-    }
-}
-
-/// What the line is behind a `=`.
-fn equal_head(head: Head, expr: Expr) -> Option<Head>
-    ensures { result ≡ after_equal head expr }
-{
-    match head {
-        Head::Value => Some(Head::Same(expr)),
+    let Frame { level, bracket } = frame;
+    match bracket {
+        Bracket::Round => Some(level),
         _ => None,
     }
 }
 
-/// What the line is behind a `|`.
-fn bar_head(head: Head, expr: Expr) -> Option<Head>
-    ensures { result ≡ after_bar head expr }
+/// The level around a square bracket that waits for its `,`.
+fn in_square(frame: Frame) -> Option<Level>
+    ensures { result ≡ in_square frame }
 {
-    match head {
-        Head::Solve => Some(Head::SolveAfter(expr)),
-        Head::Quotient => Some(Head::QuotientAfter(expr)),
+    let Frame { level, bracket } = frame;
+    match bracket {
+        Bracket::Square => Some(level),
         _ => None,
     }
 }
 
-/// The second expression of a line.
-fn step_part(alloc: Global, frames: Items<Frame>, head: Option<Head>) -> Option<Reader>
-    ensures { option_map seen result ≡ next_part (reverse frames) head }
+/// The level around a square bracket behind its `,`, and the expression before the `,`.
+fn in_second(frame: Frame) -> Option<(Level, Expr)>
+    ensures { result ≡ in_second frame }
+{
+    let Frame { level, bracket } = frame;
+    match bracket {
+        Bracket::Second(first) => Some((level, first)),
+        _ => None,
+    }
+}
+
+/// Where the reader stands behind a `)`.
+fn behind_close(alloc: Global, frames: &mut Items<Frame>, expr: Expr) -> Result<Option<Now>, Memory>
+    ensures { (h : Head) → IfOk result (λ now. moved h (reverse frames.new) now ≡ next_close h
+        (reverse frames.old) expr) }
+{
+    let Some(frame) = pop_frame(frames) else {
+        return Ok(None);
+    };
+    let Some(level) = in_round(frame) else {
+        return Ok(None);
+    };
+    let now = behind_atom(alloc, level, expr)?;
+    Ok(Some(now))
+}
+
+/// Where the reader stands behind a `,`.
+fn behind_comma(alloc: Global, frames: &mut Items<Frame>, expr: Expr) -> Result<Option<Now>, Memory>
+    ensures { (h : Head) → IfOk result (λ now. moved h (reverse frames.new) now ≡ next_comma h
+        (reverse frames.old) expr) }
+{
+    let Some(frame) = pop_frame(frames) else {
+        return Ok(None);
+    };
+    let Some(level) = in_square(frame) else {
+        return Ok(None);
+    };
+    let bracket = Bracket::Second(expr);
+    push_frame(frames, Frame { level, bracket })?;
+    Ok(Some(Now::Atom(empty_level(alloc))))
+}
+
+/// A commutator.
+fn commutator(alloc: Global, first: Expr, second: Expr) -> Result<Expr, Memory>
+    ensures { IfOk result (λ e. e ≡ Comm first second) }
+{
+    let first = Boxed::new(alloc, first)?;
+    let second = Boxed::new(alloc, second)?;
+    Ok(Expr::Comm(first, second))
+}
+
+/// Where the reader stands behind a `]`.
+fn behind_square_close(
+    alloc: Global,
+    frames: &mut Items<Frame>,
+    expr: Expr,
+) -> Result<Option<Now>, Memory>
+    ensures { (h : Head) → IfOk result (λ now. moved h
+        (reverse frames.new) now ≡ next_square_close h (reverse frames.old) expr) }
+{
+    let Some(frame) = pop_frame(frames) else {
+        return Ok(None);
+    };
+    let Some((level, first)) = in_second(frame) else {
+        return Ok(None);
+    };
+    let atom = commutator(alloc, first, expr)?;
+    let now = behind_atom(alloc, level, atom)?;
+    Ok(Some(now))
+}
+
+/// Whether a `=` may stand behind the first expression. It makes the line a comparison.
+fn takes_equal(head: &mut Head, expr: Expr) -> bool
+    ensures { cond result (Some head.new) None ≡ after_equal head.old expr }
+{
+    match head {
+        Head::Value => {
+            *head = Head::Same(expr);
+            true
+        }
+        _ => false,
+    }
+}
+
+/// Where the reader stands behind a `=`.
+fn behind_equal(alloc: Global, head: &mut Head, frames: &Items<Frame>, expr: Expr) -> Option<Now>
+    ensures { moved head.new (reverse frames.now) result ≡ next_part (reverse frames.now)
+        (after_equal head.old expr) }
 {
     if !frames.is_empty() {
         return None;
     }
-    match head {
-        Some(head) => Some(Reader {
-            head,
-            frames,
-            now: Now::Atom(empty_level(alloc)),
-        }),
-        None => None,
+    if takes_equal(head, expr) {
+        Some(Now::Atom(empty_level(alloc)))
+    } else {
+        None
     }
 }
 
-/// One token behind an expression.
-pub(super) fn step_closing(
+/// Whether a `|` may stand behind the first expression.
+fn takes_bar(head: &mut Head, expr: Expr) -> bool
+    ensures { cond result (Some head.new) None ≡ after_bar head.old expr }
+{
+    match head {
+        Head::Solve => {
+            *head = Head::SolveAfter(expr);
+            true
+        }
+        Head::Quotient => {
+            *head = Head::QuotientAfter(expr);
+            true
+        }
+        _ => false,
+    }
+}
+
+/// Where the reader stands behind a `|`.
+fn behind_bar(alloc: Global, head: &mut Head, frames: &Items<Frame>, expr: Expr) -> Option<Now>
+    ensures { moved head.new (reverse frames.now) result ≡ next_part (reverse frames.now)
+        (after_bar head.old expr) }
+{
+    if !frames.is_empty() {
+        return None;
+    }
+    if takes_bar(head, expr) {
+        Some(Now::Atom(empty_level(alloc)))
+    } else {
+        None
+    }
+}
+
+/// Where the reader stands behind one token that follows an expression.
+pub(super) fn behind_closing(
     alloc: Global,
-    head: Head,
-    frames: Items<Frame>,
+    head: &mut Head,
+    frames: &mut Items<Frame>,
     expr: Expr,
     kind: Kind,
-) -> Result<Option<Reader>, Memory>
-    ensures { IfOk result (λ r. option_map seen r ≡ next_closing head (reverse frames) expr kind) }
+) -> Result<Option<Now>, Memory>
+    ensures { IfOk result (λ now. moved head.new (reverse frames.new) now ≡ next_closing head.old
+        (reverse frames.old) expr kind) }
 {
     match kind {
-        Kind::Close => step_close(alloc, head, frames, expr),
-        Kind::Comma => step_comma(alloc, head, frames, expr),
-        Kind::SquareClose => step_square_close(alloc, head, frames, expr),
-        Kind::Equal => Ok(step_part(alloc, frames, equal_head(head, expr))),
-        Kind::Bar => Ok(step_part(alloc, frames, bar_head(head, expr))),
+        Kind::Close => behind_close(alloc, frames, expr),
+        Kind::Comma => behind_comma(alloc, frames, expr),
+        Kind::SquareClose => behind_square_close(alloc, frames, expr),
+        Kind::Equal => Ok(behind_equal(alloc, head, frames, expr)),
+        Kind::Bar => Ok(behind_bar(alloc, head, frames, expr)),
         _ => Ok(None),
     }
 }

@@ -1,10 +1,12 @@
 //! A token where an atom may stand.
 
-ghost use Rattle.std.specs.Prelude.{◌≡◌, ◌∷◌, reverse, option_map, IfOk, OnOk};
-ghost use Rattle.word_text.specs.Machine.{next_atom, next_start};
+ghost use Rattle.std.specs.Prelude.{◌≡◌, [], ◌∷◌, reverse, option_map, Some, IfOk, OnOk};
+ghost use Rattle.word_text.specs.declared.state.Head.{Head};
+ghost use Rattle.word_text.specs.declared.state.Now.TheVariants.{Atom};
+ghost use Rattle.word_text.specs.Machine.{at, empty, moved, next_atom, next_start};
 ghost use Rattle.word_text.specs.Seen.{seen};
 
-use super::phrases::{behind_atom, behind_number, empty_level};
+use super::phrases::{behind_atom, behind_number, empty_level, moved};
 use super::state::{Bracket, Frame, Head, Level, Now, Reader};
 use line_tokens::Kind;
 use nil_word::{Expr, Memory};
@@ -18,6 +20,42 @@ pub(super) fn push_frame(frames: &mut Items<Frame>, frame: Frame) -> Result<(), 
     frames.push(frame)
 }
 
+/// Where the reader stands behind an opening bracket.
+fn behind_opening(
+    alloc: Global,
+    frames: &mut Items<Frame>,
+    level: Level,
+    bracket: Bracket,
+) -> Result<Option<Now>, Memory>
+    ensures { (h : Head) → IfOk result (λ now. moved h (reverse frames.new) now ≡ Some
+        (at h (record { level = level; bracket = bracket } ∷ reverse frames.old) (Atom empty))) }
+{
+    push_frame(frames, Frame { level, bracket })?;
+    Ok(Some(Now::Atom(empty_level(alloc))))
+}
+
+/// Where the reader stands behind one token, where an atom may stand.
+fn behind_first(
+    alloc: Global,
+    frames: &mut Items<Frame>,
+    level: Level,
+    kind: Kind,
+) -> Result<Option<Now>, Memory>
+    ensures { (h : Head) → IfOk result (λ now. moved h (reverse frames.new) now ≡ next_atom h
+        (reverse frames.old) level kind) }
+{
+    match kind {
+        Kind::Name(number) => {
+            let now = behind_atom(alloc, level, Expr::Gen(number))?;
+            Ok(Some(now))
+        }
+        Kind::Integer(is_one, value) => behind_number(alloc, level, is_one, value),
+        Kind::Open => behind_opening(alloc, frames, level, Bracket::Round),
+        Kind::SquareOpen => behind_opening(alloc, frames, level, Bracket::Square),
+        _ => Ok(None),
+    }
+}
+
 /// One token where an atom may stand.
 pub(super) fn step_atom(
     alloc: Global,
@@ -29,38 +67,18 @@ pub(super) fn step_atom(
     ensures { IfOk result (λ r. option_map seen r ≡ next_atom head (reverse frames) level kind) }
 {
     let mut frames = frames;
-    match kind {
-        Kind::Name(number) => {
-            let now = behind_atom(alloc, level, Expr::Gen(number))?;
-            Ok(Some(Reader { head, frames, now }))
-        }
-        Kind::Integer(is_one, value) => match behind_number(alloc, level, is_one, value)? {
-            Some(now) => Ok(Some(Reader { head, frames, now })),
-            None => Ok(None),
-        },
-        Kind::Open => {
-            push_frame(
-                &mut frames,
-                Frame {
-                    level,
-                    bracket: Bracket::Round,
-                },
-            )?;
-            let now = Now::Atom(empty_level(alloc));
-            Ok(Some(Reader { head, frames, now }))
-        }
-        Kind::SquareOpen => {
-            push_frame(
-                &mut frames,
-                Frame {
-                    level,
-                    bracket: Bracket::Square,
-                },
-            )?;
-            let now = Now::Atom(empty_level(alloc));
-            Ok(Some(Reader { head, frames, now }))
-        }
-        _ => Ok(None),
+    let now = behind_first(alloc, &mut frames, level, kind)?;
+    Ok(moved(head, frames, now))
+}
+
+/// The reader before the first atom of a line with a keyword.
+fn behind_keyword(alloc: Global, head: Head) -> Reader
+    ensures { seen result ≡ at head [] (Atom empty) }
+{
+    Reader {
+        head,
+        frames: Items::new(alloc),
+        now: Now::Atom(empty_level(alloc)),
     }
 }
 
@@ -68,19 +86,15 @@ pub(super) fn step_atom(
 pub(super) fn step_start(alloc: Global, kind: Kind) -> Result<Option<Reader>, Memory>
     ensures { IfOk result (λ r. option_map seen r ≡ next_start kind) }
 {
-    let level = empty_level(alloc);
-    let frames = Items::new(alloc);
     match kind {
-        Kind::Solve => Ok(Some(Reader {
-            head: Head::Solve,
-            frames,
-            now: Now::Atom(level),
-        })),
-        Kind::Quotient => Ok(Some(Reader {
-            head: Head::Quotient,
-            frames,
-            now: Now::Atom(level),
-        })),
-        _ => step_atom(alloc, Head::Value, frames, level, kind),
+        Kind::Solve => Ok(Some(behind_keyword(alloc, Head::Solve))),
+        Kind::Quotient => Ok(Some(behind_keyword(alloc, Head::Quotient))),
+        _ => step_atom(
+            alloc,
+            Head::Value,
+            Items::new(alloc),
+            empty_level(alloc),
+            kind,
+        ),
     }
 }

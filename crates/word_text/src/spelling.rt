@@ -80,7 +80,8 @@ fn push_star(tokens: &mut Vec<Kind>, place: usize) -> Result<(), Memory>
 /// An expression, in round brackets where they are asked for.
 #[cycle(spelling)]
 fn push_enclosed(tokens: &mut Vec<Kind>, brackets: bool, expr: &Expr) -> Result<(), Memory>
-    ensures { OnOk result (tokens.new.items ≡ tokens.old.items ++ enclosed brackets (written expr.now).tokens) }
+    ensures { OnOk result (tokens.new.items ≡ tokens.old.items
+        ++ enclosed brackets (written expr.now).tokens) }
 {
     if !brackets {
         return push_expr(tokens, expr);
@@ -133,7 +134,8 @@ fn push_expr(tokens: &mut Vec<Kind>, expr: &Expr) -> Result<(), Memory>
 
 /// Two expressions with a token between them.
 fn push_two(tokens: &mut Vec<Kind>, u: &Expr, between: Kind, v: &Expr) -> Result<(), Memory>
-    ensures { OnOk result (tokens.new.items ≡ tokens.old.items ++ ((written u.now).tokens ++ between ∷ (written v.now).tokens)) }
+    ensures { OnOk result (tokens.new.items ≡ tokens.old.items
+        ++ ((written u.now).tokens ++ between ∷ (written v.now).tokens)) }
 {
     push_expr(tokens, u)?;
     push(tokens, between)?;

@@ -73,7 +73,8 @@ fn text_of(alloc: Global, pres: &Presentation, tokens: &[Kind]) -> Result<String
 /// where the query is well shaped and at most 200 brackets are open at once in its text.
 pub fn write_query(alloc: Global, pres: &Presentation, query: &Query) -> Result<String, Memory>
     ensures text { IfOk result (λ s. string_bytes s ≡ query_text pres.now.names query.now) }
-    ensures again { IsShapedQuery (length pres.now.names) query.now → most_open (written_query query.now) ≤ 200 →
+    ensures again { IsShapedQuery (length pres.now.names) query.now
+        → most_open (written_query query.now) ≤ 200 →
         IfOk result (λ s. ReadsAs pres.now.names (string_bytes s) query.now) }
 {
     // Its names are lawful, so that the text reads again.

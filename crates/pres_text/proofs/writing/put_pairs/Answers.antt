@@ -1,4 +1,4 @@
-use Rattle.std.proofs.Common.{◌≡◌, List, ℕ, ◌+◌, ◌++◌, string_bytes, ap, sym, ◌∙◌, append_assoc}
+use Rattle.std.proofs.Common.{List, ℕ, ◌+◌, ◌++◌, string_bytes, ap, sym, ◌∙◌, append_assoc}
 use Rattle.nil_pres.specs.Presented.{right_side}
 use Rattle.pres_text.specs.Text.{line_text, pairs_text}
 use Rattle.pres_text.proofs.Written.{pairs_text-next}

@@ -1,0 +1,10 @@
+-- A file's presentation is the one that its content drafts.
+use Rattle.std.proofs.Common.{sym, ◌∙◌}
+use Rattle.pres_text.proofs.Presented.{reads}
+use Rattle.pres_text.proofs.laws.files.Goals as goal
+
+pub returns-clause-one : goal.returns-clause-one
+returns-clause-one c = λ file p q h k. sym (reads p file h).same ∙ (reads q file k).same
+
+pub returns-clause-none : goal.returns-clause-none
+returns-clause-none c = λ file p h. (reads p file h).fine
