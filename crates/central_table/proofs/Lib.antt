@@ -1,0 +1,11 @@
+pub mod Numbers
+pub mod Appending
+pub mod FirstBad
+pub mod CentralForm
+pub mod Exponents
+pub mod CrossSums
+pub mod CrossTerms
+pub mod PairOrder
+pub mod CentralShapes
+pub mod CentralPolys
+pub mod CentralValues
