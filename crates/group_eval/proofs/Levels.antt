@@ -1,0 +1,59 @@
+-- A well-shaped expression has its generators from level 1 on.
+--   n generators · e expression · x y one level of one
+use Rattle.std.proofs.Common.{◌≡◌, ℕ, nat_le, Bool, true, ◌&&◌, List, [], ◌∷◌, length, map, refl, sym, ◌∙◌, ap, subst}
+use Rattle.std.specs.List.{list_all}
+use Rattle.nil_word.specs.declared.expr.Expr.{Expr, Expr-F, fold-roll-Expr, ind-Expr, map-Expr, roll-Expr}
+use Rattle.nil_word.specs.declared.expr.Expr.TheOpen as level
+use Rattle.nil_word.specs.Expressions.{is_within, is_shaped_level, IsShaped}
+use Rattle.group_eval.specs.Expressions.{is_from_level, IsFrom}
+use Rattle.group_eval.proofs.Evaluations.{left_of, right_of, is_shaped, is_from}
+
+both : (a b : Bool) → a ≡ true → b ≡ true → (a && b) ≡ true
+both a b h k = ap (λ c. c && b) h ∙ k
+
+abbrev Known : ℕ → Type 0
+Known n = (e : Expr) × (is_shaped n e ≡ true → is_from 1 e ≡ true)
+
+abbrev known : (n : ℕ) → List (Known n) → List Expr
+known n ys = map (λ e. e.0) ys
+
+all_from : (n : ℕ) (ys : List (Known n))
+    → list_all (λ b. b) (map (is_shaped n) (known n ys)) ≡ true
+    → list_all (λ b. b) (map (is_from 1) (known n ys)) ≡ true
+all_from n [] h = refl
+all_from n (y ∷ ys) h =
+    let rest = list_all (λ b. b) (map (is_shaped n) (known n ys)) in
+    both (is_from 1 y.0) (list_all (λ b. b) (map (is_from 1) (known n ys)))
+    (y.1 (left_of (is_shaped n y.0) rest h)) (all_from n ys (right_of (is_shaped n y.0) rest h))
+
+level_from : (n : ℕ) (y : Expr-F (Known n))
+    → is_shaped_level n (map-Expr Expr Bool (is_shaped n) (map-Expr (Known n) Expr (λ e. e.0) y))
+    ≡ true
+    → is_from_level 1 (map-Expr Expr Bool (is_from 1) (map-Expr (Known n) Expr (λ e. e.0) y)) ≡ true
+level_from n level.One h = refl
+level_from n (level.Gen k) h = left_of (nat_le 1 k) (nat_le k n) h
+level_from n (level.Product ys) h =
+    all_from n ys
+    (right_of (nat_le 2 (length (map (is_shaped n) (known n ys))))
+    (list_all (λ b. b) (map (is_shaped n) (known n ys))) h)
+level_from n (level.Pow y z) h = y.1 (left_of (is_shaped n y.0) (is_within z) h)
+level_from n (level.Conj u v) h =
+    both (is_from 1 u.0) (is_from 1 v.0) (u.1 (left_of (is_shaped n u.0) (is_shaped n v.0) h))
+    (v.1 (right_of (is_shaped n u.0) (is_shaped n v.0) h))
+level_from n (level.Comm u v) h =
+    both (is_from 1 u.0) (is_from 1 v.0) (u.1 (left_of (is_shaped n u.0) (is_shaped n v.0) h))
+    (v.1 (right_of (is_shaped n u.0) (is_shaped n v.0) h))
+
+rolled : (n : ℕ) (y : Expr-F (Known n))
+    → is_shaped n (roll-Expr (map-Expr (Known n) Expr (λ e. e.0) y)) ≡ true
+    → is_from 1 (roll-Expr (map-Expr (Known n) Expr (λ e. e.0) y)) ≡ true
+rolled n y h =
+    fold-roll-Expr Bool (is_from_level 1) (map-Expr (Known n) Expr (λ e. e.0) y)
+    ∙ level_from n y
+    (sym (fold-roll-Expr Bool (is_shaped_level n) (map-Expr (Known n) Expr (λ e. e.0) y)) ∙ h)
+
+pub from_one : (n : ℕ) (e : Expr) → IsShaped n e → IsFrom 1 e
+from_one n =
+    ind-Expr (λ e. is_shaped n e ≡ true → is_from 1 e ≡ true)
+    (λ x y is. subst (λ z. is_shaped n (roll-Expr z) ≡ true → is_from 1 (roll-Expr z) ≡ true) is
+    (rolled n y))

@@ -1,0 +1,169 @@
+-- The written order of an expression, from that of its parts.
+--   t table · e b expressions · es items · a p v vectors · k generator · z exponent · i index
+use Rattle.std.proofs.Common.{◌≡◌, ℕ, suc, ◌+◌, ◌<◌, ◌≤◌, ◌-◌, nat_le, Bool, true, ◌&&◌, ℤ, Option, Some, None, Ok, Err, List, [], ◌∷◌, length, map, take, drop, get_or, refl, sym, ◌∙◌, ap, subst, add-one, drop-cons, length-drop, arith}
+use Rattle.std.specs.Prelude.{All}
+use Rattle.std.specs.List.{list_all}
+use Rattle.std.proofs.lemmas.Bool.{leb-true}
+use Rattle.std.proofs.lemmas.List.{length-map, take_all}
+use Rattle.std.proofs.lemmas.List.Elements.{All-nil, All-cons, All-drop}
+use Rattle.nil_word.specs.declared.expr.Expr.{Expr, fold-roll-Expr}
+use Rattle.nil_word.specs.declared.expr.Expr.TheOpen as level
+use Rattle.nil_word.specs.declared.expr.Expr.TheVariants.{Gen, Product, Pow, Conj, Comm, rolls-Gen, rolls-Product, rolls-Pow, rolls-Conj, rolls-Comm}
+use Rattle.nil_word.specs.Expressions.{is_shaped_level, IsShaped}
+use Rattle.hall_table.specs.declared.wide_at.WideAt.{WideAt}
+use Rattle.hall_table.specs.Tabled.{Tabled, last_of}
+use Rattle.hall_table.specs.Order.{multiplied}
+use Rattle.hall_law.specs.Table.{single}
+use Rattle.group_eval.specs.Order.{Outcome, and_then, powered, commuted, conjugated}
+use Rattle.group_eval.specs.Expressions.{Evaluation, joined, joined_all, powered_of, evaluated_level, evaluated, is_from_level, IsFrom}
+use Rattle.group_eval.proofs.Evaluations.{left_of, right_of, evaluation, is_shaped, is_from, outcomes, generator_is}
+
+-- ---- items
+all_true : (f : Expr → Bool) (es : List Expr) → list_all (λ b. b) (map f es) ≡ true
+    → All (λ e. f e ≡ true) es
+all_true f [] h = All-nil (λ e. f e ≡ true)
+all_true f (e ∷ es) h =
+    All-cons (λ d. f d ≡ true) e es (left_of (f e) (list_all (λ b. b) (map f es)) h)
+    (all_true f es (right_of (f e) (list_all (λ b. b) (map f es)) h))
+
+shaped_level : (n : ℕ) (es : List Expr) → IsShaped n (Product es)
+    → (nat_le 2 (length (map (is_shaped n) es)) && list_all (λ b. b) (map (is_shaped n) es)) ≡ true
+shaped_level n es h =
+    sym (ap (is_shaped n) (sym (rolls-Product es))
+    ∙ fold-roll-Expr Bool (is_shaped_level n) (level.Product es))
+    ∙ h
+
+pub items_some : (n : ℕ) (es : List Expr) → IsShaped n (Product es) → 0 < length es
+items_some n es h =
+    let two : 2 ≤ length (map (is_shaped n) es) =
+    leb-true 2 (length (map (is_shaped n) es))
+    (left_of (nat_le 2 (length (map (is_shaped n) es)))
+    (list_all (λ b. b) (map (is_shaped n) es)) (shaped_level n es h)) in
+    omega (arith, length-map es (is_shaped n))
+
+-- the items but the first, as a slice has them
+pub take-rest : (es : List Expr) → take (length es - 1) (drop 1 es) ≡ drop 1 es
+take-rest es = take_all (length es - 1) (drop 1 es) (omega (arith, length-drop 1 es))
+
+pub rest_shaped : (n : ℕ) (es : List Expr) → IsShaped n (Product es)
+    → All (IsShaped n) (take (length es - 1) (drop 1 es))
+rest_shaped n es h =
+    subst (All (IsShaped n)) (sym (take-rest es))
+    (All-drop (IsShaped n) 1 es
+    (all_true (is_shaped n) es
+    (right_of (nat_le 2 (length (map (is_shaped n) es)))
+    (list_all (λ b. b) (map (is_shaped n) es)) (shaped_level n es h))))
+
+pub rest_from : (i : ℕ) (es : List Expr) → IsFrom i (Product es)
+    → All (IsFrom i) (take (length es - 1) (drop 1 es))
+rest_from i es h =
+    subst (All (IsFrom i)) (sym (take-rest es))
+    (All-drop (IsFrom i) 1 es
+    (all_true (is_from i) es
+    (sym (ap (is_from i) (sym (rolls-Product es))
+    ∙ fold-roll-Expr Bool (is_from_level i) (level.Product es))
+    ∙ h)))
+
+-- ---- products
+pub evaluated-Product : (t : Tabled) (es : List Expr)
+    → evaluated t (Product es) ≡ joined_all t (outcomes t es)
+evaluated-Product t es =
+    ap (evaluated t) (sym (rolls-Product es))
+    ∙ ap (λ i. i.outcome) (fold-roll-Expr Evaluation (evaluated_level t) (level.Product es))
+
+outcomes-drop : (t : Tabled) (es : List Expr) (i : ℕ) (e : Expr) → i < length es → e ≡ get_or es i e
+    → outcomes t (drop i es) ≡ evaluated t e ∷ outcomes t (drop (i + 1) es)
+outcomes-drop t es i e l is =
+    ap (outcomes t) (drop-cons es i e l)
+    ∙ ap (λ x. evaluated t x ∷ outcomes t (drop (suc i) es)) (sym is)
+    ∙ ap (λ n. evaluated t e ∷ outcomes t (drop n es)) (sym (add-one i))
+
+-- the items from one on, where its outcome is known
+abbrev after : Tabled → List ℤ → Outcome → List Outcome → Outcome
+after t a r rs = and_then r (λ b. and_then (multiplied t a b) (λ c. joined t c rs))
+
+pub joined-more : (t : Tabled) (a b p : List ℤ) (es : List Expr) (i : ℕ) (e : Expr) → i < length es
+    → e ≡ get_or es i e → evaluated t e ≡ Ok b → multiplied t a b ≡ Ok p
+    → joined t a (outcomes t (drop i es)) ≡ joined t p (outcomes t (drop (i + 1) es))
+joined-more t a b p es i e l is f g =
+    let rs = outcomes t (drop (i + 1) es) in
+    ap (joined t a) (outcomes-drop t es i e l is) ∙ ap (λ r. after t a r rs) f
+    ∙ ap (λ r. and_then r (λ c. joined t c rs)) g
+
+pub joined-item_wide : (t : Tabled) (a : List ℤ) (es : List Expr) (i : ℕ) (e : Expr) (at : WideAt)
+    → i < length es → e ≡ get_or es i e → evaluated t e ≡ Err at
+    → joined t a (outcomes t (drop i es)) ≡ Err at
+joined-item_wide t a es i e at l is f =
+    ap (joined t a) (outcomes-drop t es i e l is)
+    ∙ ap (λ r. after t a r (outcomes t (drop (i + 1) es))) f
+
+pub joined-product_wide : (t : Tabled) (a b : List ℤ) (es : List Expr) (i : ℕ) (e : Expr) (at : WideAt)
+    → i < length es → e ≡ get_or es i e → evaluated t e ≡ Ok b → multiplied t a b ≡ Err at
+    → joined t a (outcomes t (drop i es)) ≡ Err at
+joined-product_wide t a b es i e at l is f g =
+    let rs = outcomes t (drop (i + 1) es) in
+    ap (joined t a) (outcomes-drop t es i e l is) ∙ ap (λ r. after t a r rs) f
+    ∙ ap (λ r. and_then r (λ c. joined t c rs)) g
+
+joined_all-first : (t : Tabled) (es : List Expr) (e : Expr) (r : Outcome) → 0 < length es
+    → e ≡ get_or es 0 e → evaluated t e ≡ r
+    → evaluated t (Product es) ≡ and_then r (λ a. joined t a (outcomes t (drop 1 es)))
+joined_all-first t es e r l is f =
+    evaluated-Product t es ∙ ap (joined_all t) (outcomes-drop t es 0 e l is)
+    ∙ ap (λ s. and_then s (λ a. joined t a (outcomes t (drop 1 es)))) f
+
+pub product_begins : (t : Tabled) (es : List Expr) (e : Expr) (a : List ℤ) → 0 < length es
+    → e ≡ get_or es 0 e → evaluated t e ≡ Ok a
+    → evaluated t (Product es) ≡ joined t a (outcomes t (drop 1 es))
+product_begins t es e a = joined_all-first t es e (Ok a)
+
+pub product_wide : (t : Tabled) (es : List Expr) (e : Expr) (at : WideAt) → 0 < length es
+    → e ≡ get_or es 0 e → evaluated t e ≡ Err at → evaluated t (Product es) ≡ Err at
+product_wide t es e at = joined_all-first t es e (Err at)
+
+-- ---- powers
+evaluated-Pow : (t : Tabled) (b : Expr) (z : ℤ)
+    → evaluated t (Pow b z) ≡ powered_of t (evaluation t b).generator (evaluated t b) z
+evaluated-Pow t b z =
+    ap (evaluated t) (sym (rolls-Pow b z))
+    ∙ ap (λ i. i.outcome) (fold-roll-Expr Evaluation (evaluated_level t) (level.Pow b z))
+
+no_generator : (t : Tabled) (b : Expr) (g : Option ℕ) → (evaluation t b).generator ≡ g
+    → ((k : ℕ) → b ≡ Gen k → ⊥) → g ≡ None
+no_generator t b None e h = refl
+no_generator t b (Some k) e h = absurd (h k (generator_is t b k e ∙ rolls-Gen k))
+
+pub power-generator : (t : Tabled) (b : Expr) (k : ℕ) (z : ℤ) → b ≡ Gen k
+    → evaluated t (Pow b z) ≡ Ok (single (last_of t) k z)
+power-generator t b k z is =
+    let own : (evaluation t b).generator ≡ Some k =
+    ap (λ x. (evaluation t x).generator) (is ∙ sym (rolls-Gen k))
+    ∙ ap (λ i. i.generator) (fold-roll-Expr Evaluation (evaluated_level t) (level.Gen k)) in
+    evaluated-Pow t b z ∙ ap (λ g. powered_of t g (evaluated t b) z) own
+
+pub power-other : (t : Tabled) (b : Expr) (z : ℤ) (r : Outcome) → ((k : ℕ) → b ≡ Gen k → ⊥)
+    → evaluated t b ≡ r → evaluated t (Pow b z) ≡ and_then r (λ a. powered t a z)
+power-other t b z r h f =
+    evaluated-Pow t b z
+    ∙ ap (λ g. powered_of t g (evaluated t b) z)
+    (no_generator t b (evaluation t b).generator refl h)
+    ∙ ap (λ s. and_then s (λ a. powered t a z)) f
+
+-- ---- two parts
+pub conjugate-parts : (t : Tabled) (e u v x y : Expr) (a b : List ℤ) → e ≡ Conj u v → x ≡ u → y ≡ v
+    → evaluated t x ≡ Ok a → evaluated t y ≡ Ok b → evaluated t e ≡ conjugated t a b
+conjugate-parts t e u v x y a b is left right f g =
+    ap (evaluated t) (is ∙ sym (rolls-Conj u v))
+    ∙ ap (λ i. i.outcome) (fold-roll-Expr Evaluation (evaluated_level t) (level.Conj u v))
+    ∙ ap (λ r. and_then r (λ c. and_then (evaluated t v) (λ d. conjugated t c d)))
+    (ap (evaluated t) (sym left) ∙ f)
+    ∙ ap (λ r. and_then r (λ d. conjugated t a d)) (ap (evaluated t) (sym right) ∙ g)
+
+pub commutator-parts : (t : Tabled) (e u v x y : Expr) (a b : List ℤ) → e ≡ Comm u v → x ≡ u → y ≡ v
+    → evaluated t x ≡ Ok a → evaluated t y ≡ Ok b → evaluated t e ≡ commuted t a b
+commutator-parts t e u v x y a b is left right f g =
+    ap (evaluated t) (is ∙ sym (rolls-Comm u v))
+    ∙ ap (λ i. i.outcome) (fold-roll-Expr Evaluation (evaluated_level t) (level.Comm u v))
+    ∙ ap (λ r. and_then r (λ c. and_then (evaluated t v) (λ d. commuted t c d)))
+    (ap (evaluated t) (sym left) ∙ f)
+    ∙ ap (λ r. and_then r (λ d. commuted t a d)) (ap (evaluated t) (sym right) ∙ g)

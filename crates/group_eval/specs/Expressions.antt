@@ -1,0 +1,59 @@
+-- The written order in which an expression is evaluated.
+--   Evaluation             what an expression gives, and its generator where it is one alone
+--   joined t a rs          a times the items from left to right, each evaluated before its product
+--   evaluated t e          the vector of an expression, or the first place that passes 128 bits
+--   IsFrom level e         each generator of the expression is at least the level
+-- t table · e expression · a vector
+use Rattle.std.specs.Prelude.{◌≡◌, ℕ, nat_le, Bool, true, ◌&&◌, ℤ, List, [], ◌∷◌, map, pos, Ok, Option, Some, None}
+use Rattle.std.specs.List.{list_all}
+use Rattle.nil_word.specs.declared.expr.Expr.{Expr, fold-Expr}
+use Rattle.nil_word.specs.declared.expr.Expr.TheOpen.{Expr-F, One, Gen, Product, Pow, Conj, Comm}
+use Rattle.hall_law.specs.Table.{zeros, single}
+use Rattle.hall_table.specs.Tabled.{Tabled, last_of}
+use Rattle.hall_table.specs.Order.{multiplied}
+use Rattle.group_eval.specs.Order.{Outcome, and_then, powered, commuted, conjugated}
+
+pub record Evaluation : Type 0 where
+  pub generator : Option ℕ
+  pub outcome : Outcome
+
+abbrev pub of_outcome : Outcome → Evaluation
+of_outcome r = record { generator = None; outcome = r }
+
+abbrev pub joined : Tabled → List ℤ → List Outcome → Outcome
+joined t a [] = Ok a
+joined t a (r ∷ rs) = and_then r (λ b. and_then (multiplied t a b) (λ c. joined t c rs))
+
+abbrev pub joined_all : Tabled → List Outcome → Outcome
+joined_all t [] = Ok (zeros (last_of t))
+joined_all t (r ∷ rs) = and_then r (λ a. joined t a rs)
+
+-- a power of a generator takes no multiplication
+abbrev pub powered_of : Tabled → Option ℕ → Outcome → ℤ → Outcome
+powered_of t (Some k) r e = Ok (single (last_of t) k e)
+powered_of t None r e = and_then r (λ a. powered t a e)
+
+abbrev pub evaluated_level : Tabled → Expr-F Evaluation → Evaluation
+evaluated_level t One = of_outcome (Ok (zeros (last_of t)))
+evaluated_level t (Gen k) =
+    record { generator = Some k; outcome = Ok (single (last_of t) k (pos 1)) }
+evaluated_level t (Product items) = of_outcome (joined_all t (map (λ i. i.outcome) items))
+evaluated_level t (Pow b e) = of_outcome (powered_of t b.generator b.outcome e)
+evaluated_level t (Conj u v) =
+    of_outcome (and_then u.outcome (λ a. and_then v.outcome (λ b. conjugated t a b)))
+evaluated_level t (Comm u v) =
+    of_outcome (and_then u.outcome (λ a. and_then v.outcome (λ b. commuted t a b)))
+
+abbrev pub evaluated : Tabled → Expr → Outcome
+evaluated t e = (fold-Expr Evaluation (evaluated_level t) e).outcome
+
+abbrev pub is_from_level : ℕ → Expr-F Bool → Bool
+is_from_level level One = true
+is_from_level level (Gen k) = nat_le level k
+is_from_level level (Product items) = list_all (λ b. b) items
+is_from_level level (Pow b e) = b
+is_from_level level (Conj u v) = u && v
+is_from_level level (Comm u v) = u && v
+
+abbrev pub IsFrom : ℕ → Expr → Type 0
+IsFrom level e = fold-Expr Bool (is_from_level level) e ≡ true

@@ -1,0 +1,89 @@
+-- The written order in which an element is evaluated: its vector, or the first place that passes
+-- 128 bits.
+--   and_then r f               f of what r gives, or the place that r names
+--   unless passes at r     the refusal at a place that passes, and r where it doesn't
+--   is_wide e              the magnitude of e is above 2^127 - 1
+--   difference t a b x k   b_k - f_k(a, x)
+--   solved_from t a b x k d    x with its d entries from k on: each is the difference with those before
+--   solved t a b           the x with f(a, x) = b
+--   inverted t a           a^-1
+--   divided t a b          a b^-1
+--   powered_in d t a e     a^e by halves, where d is at least e
+--   powered t a e          a^e
+--   commuted t u v         [u,v]
+--   conjugated t u v       u^v
+--   Writes result new r    a call wrote what r gives, or answered the place that r names
+-- t table · a b u v x vectors · k generator · e exponent
+use Rattle.std.specs.Prelude.{◌≡◌, ℕ, zero, suc, ◌/◌, ◌%◌, ◌^◌, ◌==◌, nat_le, Bool, ℤ, pos, negsuc, ◌-ℤ◌, unsigned_abs, List, Result, Ok, Err, MatchResult, if◌then◌else◌}
+use Rattle.nil_word.specs.Exponents.{entry}
+use Rattle.hall_law.specs.Table.{zeros}
+use Rattle.hall_law.specs.Plan.{put}
+use Rattle.binom_poly.specs.Polynomial.{value_of}
+use Rattle.hall_table.specs.declared.wide_at.WideAt.{WideAt}
+use Rattle.hall_table.specs.declared.wide_at.WideAt.TheVariants.{RowX, RowY, Sum}
+use Rattle.hall_table.specs.Shape.{y_of}
+use Rattle.hall_table.specs.Tabled.{Tabled, last_of, poly_at}
+use Rattle.hall_table.specs.Values.{point_of}
+use Rattle.hall_table.specs.Width.{width_for}
+use Rattle.hall_table.specs.Order.{first_from, generators, multiplied, named, row_passes, sum_at_passes, x_passes}
+
+abbrev pub Outcome : Type 0
+Outcome = Result (List ℤ) WideAt
+
+abbrev pub and_then : Outcome → (List ℤ → Outcome) → Outcome
+and_then (Ok a) f = f a
+and_then (Err at) f = Err at
+
+abbrev pub unless : Bool → WideAt → Outcome → Outcome
+unless passes at r = if passes then Err at else r
+
+abbrev pub is_wide : ℤ → Bool
+is_wide e = nat_le (2 ^ 127) (unsigned_abs e)
+
+abbrev pub difference : Tabled → List ℤ → List ℤ → List ℤ → ℕ → ℤ
+difference t a b x k = entry b k -ℤ value_of (point_of a x) (poly_at t k)
+
+-- the sum, the difference and the row of y_k, in this order
+abbrev pub solved_from : Tabled → List ℤ → List ℤ → List ℤ → ℕ → ℕ → Outcome
+solved_from t a b x k zero = Ok x
+solved_from t a b x k (suc d) =
+    let e = difference t a b x k in
+    unless (sum_at_passes t a x k) (Sum k)
+    (unless (is_wide e) (Sum k)
+    (unless (row_passes e (width_for t (y_of k))) (RowY k)
+    (solved_from t a b (put x k e) (suc k) d)))
+
+abbrev pub solved : Tabled → List ℤ → List ℤ → Outcome
+solved t a b =
+    named RowX (first_from t.level (generators t) (x_passes t a))
+    (solved_from t a b (zeros (last_of t)) t.level (generators t))
+
+abbrev pub inverted : Tabled → List ℤ → Outcome
+inverted t a = solved t a (zeros (last_of t))
+
+abbrev pub divided : Tabled → List ℤ → List ℤ → Outcome
+divided t a b = and_then (inverted t b) (λ c. multiplied t a c)
+
+abbrev pub squared_and : Tabled → List ℤ → ℕ → List ℤ → Outcome
+squared_and t a e h =
+    and_then (multiplied t h h) (λ s. if e % 2 == 1 then multiplied t s a else Ok s)
+
+abbrev pub powered_in : ℕ → Tabled → List ℤ → ℕ → Outcome
+powered_in zero t a e = Ok (zeros (last_of t))
+powered_in (suc d) t a e =
+    if e == 0 then Ok (zeros (last_of t))
+    else (if e == 1 then Ok a
+    else and_then (powered_in d t a (e / 2)) (squared_and t a e))
+
+abbrev pub powered : Tabled → List ℤ → ℤ → Outcome
+powered t a (pos e) = powered_in e t a e
+powered t a (negsuc e) = and_then (inverted t a) (λ b. powered_in (suc e) t b (suc e))
+
+abbrev pub commuted : Tabled → List ℤ → List ℤ → Outcome
+commuted t u v = and_then (multiplied t v u) (λ a. and_then (multiplied t u v) (solved t a))
+
+abbrev pub conjugated : Tabled → List ℤ → List ℤ → Outcome
+conjugated t u v = and_then (multiplied t u v) (solved t v)
+
+abbrev pub Writes : Result (Unit {0}) WideAt → List ℤ → Outcome → Type 0
+Writes result new r = MatchResult result (λ _. r ≡ Ok new) (λ at. r ≡ Err at)

@@ -1,0 +1,41 @@
+-- The written order in which a query is answered.
+--   vector_or_wide r       the vector of an outcome, or Wide
+--   same_or_not a b        Yes where the vectors are equal, else No
+--   answered t q           the reply to a query
+--   IsWide t q             a value on the way to the reply passes 128 bits
+-- t table · q query · a b vectors
+use Rattle.std.specs.Prelude.{◌≡◌, ℤ, List, Ok, Err, if◌then◌else◌}
+use Rattle.std.specs.Ordering.{int_eq}
+use Rattle.std.specs.Cmp.Lexicographic.{pointwise}
+use Rattle.nil_word.specs.declared.query.Query.{Query}
+use Rattle.nil_word.specs.declared.query.Query.TheVariants as query
+use Rattle.hall_table.specs.Tabled.{Tabled}
+use Rattle.group_eval.specs.declared.reply.Reply.{Reply}
+use Rattle.group_eval.specs.declared.reply.Reply.TheVariants as reply
+use Rattle.group_eval.specs.Order.{Outcome, and_then, solved, divided}
+use Rattle.group_eval.specs.Expressions.{evaluated}
+
+abbrev pub vector_or_wide : Outcome → Reply
+vector_or_wide (Ok a) = reply.Vector a
+vector_or_wide (Err at) = reply.Wide
+
+abbrev pub same_or_not : List ℤ → List ℤ → Reply
+same_or_not a b = if pointwise int_eq a b then reply.Yes else reply.No
+
+abbrev pub compared : Outcome → Outcome → Reply
+compared (Ok a) (Ok b) = same_or_not a b
+compared (Ok a) (Err at) = reply.Wide
+compared (Err at) r = reply.Wide
+
+abbrev pub of_both : Outcome → Outcome → (List ℤ → List ℤ → Outcome) → Reply
+of_both r s f = vector_or_wide (and_then r (λ a. and_then s (λ b. f a b)))
+
+abbrev pub answered : Tabled → Query → Reply
+answered t (query.Value e) = vector_or_wide (evaluated t e)
+answered t (query.Same u v) = compared (evaluated t u) (evaluated t v)
+answered t (query.Solve u v) = of_both (evaluated t u) (evaluated t v) (solved t)
+answered t (query.Quotient u v) = of_both (evaluated t u) (evaluated t v) (divided t)
+answered t query.Blank = reply.Nothing
+
+abbrev pub IsWide : Tabled → Query → Type 0
+IsWide t q = answered t q ≡ reply.Wide

@@ -1,0 +1,33 @@
+//! Elements of a nilpotent group by a table that multiplies in its presentation: products, solutions,
+//! inverses, quotients, powers, commutators, conjugates, expressions and replies to queries.
+//! Not promised: that a value on the way stays within 128 bits. Where one doesn't, its place is named.
+#![tactic(auto)]
+
+mod answering;
+mod commuting;
+mod copying;
+mod dividing;
+mod eval_fault;
+mod expressions;
+pub mod laws;
+mod meaning;
+mod multiplying;
+mod powering;
+mod reply;
+mod solving;
+mod workspace;
+
+pub use answering::answer;
+pub use commuting::{commutator, conjugate};
+pub use dividing::{inverse, quotient};
+pub use eval_fault::EvalFault;
+pub use expressions::eval_expr;
+pub use multiplying::multiply;
+pub use powering::power;
+pub use reply::Reply;
+pub use solving::solve;
+use std::alloc::AllocError;
+pub use workspace::Workspace;
+
+/// Want of memory.
+pub type Memory = AllocError;

@@ -1,0 +1,13 @@
+//! Replies.
+
+use nil_word::Vector;
+
+/// What a query is answered. `Wide`: a value on the way passed 128 bits. `Nothing`: it asked nothing.
+#[derive(Drop)]
+pub enum Reply {
+    Vector(Vector),
+    Yes,
+    No,
+    Wide,
+    Nothing,
+}
