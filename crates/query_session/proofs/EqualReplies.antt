@@ -1,69 +1,122 @@
 -- Replies by vectors are equal exactly if the words are congruent.
-use Rattle.std.proofs.Common.{◌≡◌, ℕ, ◌<◌, ◌⊎◌, inl, inr, ℤ, List, [], ◌∷◌, length, Some, None, refl, sym, ◌∙◌, ap, subst, arith}
+--   IsVectorReply p e text   the text is that of the one vector that stands for the expression
+use Rattle.std.proofs.Common.{◌≡◌, ◌↔◌, ℕ, ℤ, List, ◌∷◌, [], Ok, Err, length, sym, ◌∙◌, ap, subst, refl, arith}
+use Rattle.std.specs.Str.Lines.{strip_carriage_return}
 use Rattle.std.proofs.lemmas.List.{append_cancel_right}
 use Rattle.nil_word.specs.declared.letter.Letter.{Letter}
+use Rattle.nil_word.specs.declared.expr.Expr.{Expr}
+use Rattle.nil_word.specs.declared.query.Query.{Query}
+use Rattle.nil_word.specs.declared.query.Query.TheVariants as query
 use Rattle.nil_word.specs.Words.{ordered}
-use Rattle.nil_word.specs.Congruence.{Congruent}
+use Rattle.nil_word.specs.Congruence.{Congruent, StandsFor}
+use Rattle.nil_word.specs.Expressions.{unrolled}
 use Rattle.nil_pres.specs.Presented.{Presented}
-use Rattle.query_session.specs.declared.factor.Factor.{Factor}
+use Rattle.nil_pres.specs.Relations.{relations_of}
+use Rattle.word_text.specs.declared.query_fault.QueryFault.{QueryFault}
+use Rattle.word_text.specs.Lines.{ReadsAs, FailsWith}
+use Rattle.word_text.specs.Reading.{reading}
+use Rattle.word_text.specs.Vectors.{text_of_entries}
+use Rattle.central_table.specs.Central.{central_table}
+use Rattle.group_eval.specs.declared.reply.Reply.{Reply}
+use Rattle.group_eval.specs.Queries.{IsWide}
+use Rattle.group_eval.specs.Right.{IsTheOne, IsRightReply, value, yes, no, solution, quotient, nothing}
 use Rattle.query_session.specs.Pieces.{as_line}
-use Rattle.query_session.specs.Limits.{line_limit}
-use Rattle.query_session.specs.Central.{relations_of}
-use Rattle.query_session.specs.Factors.{factors}
-use Rattle.query_session.specs.Value.{word_of_factors}
-use Rattle.query_session.specs.Replies.{vector_text}
-use Rattle.query_session.specs.Right.{IsWide, IsQuery, IsItsVector, IsReply, nothing, unread, wide, right}
-use Rattle.query_session.proofs.VectorTexts.{vector_text-same}
+use Rattle.query_session.specs.Replies.{line_of}
+use Rattle.query_session.specs.Right.{IsQuery, IsFaulty, IsReply, long, faulty, wide, right}
+use Rattle.query_session.proofs.VectorTexts.{text_of_entries-same}
 
-some_is : {A : Type 0} (x y : A) → Some x ≡ Some y → x ≡ y
-some_is x y h = cc
-
--- the vector of a reply
-record IsAnswered (p : Presented) (fs : List Factor) (text : List ℕ) : Type 0 where
+record IsVectorReply (p : Presented) (e : Expr) (text : List ℕ) : Type 0 where
   vector : List ℤ
-  its : IsItsVector p fs vector
-  written : text ≡ as_line (vector_text vector)
+  one : IsTheOne (length p.names) (λ x. StandsFor (relations_of p) x (unrolled e)) vector
+  written : text ≡ as_line (text_of_entries vector)
 
-is_read : (p : Presented) (line : List ℕ) (fs : List Factor) → IsQuery p line fs → (line_limit < length line) ⊎ (factors p.names line ≡ None) → ⊥
-is_read p line fs q (inl long) = omega (arith, long, q.within)
-is_read p line fs q (inr none) = let no : Some fs ≡ None = sym q.form ∙ none in cc
+vector_reply : (p : Presented) (e : Expr) (q : Query) (r : Reply) → q ≡ query.Value e
+    → IsRightReply (relations_of p) q r → IsVectorReply p e (line_of r)
+vector_reply p e q r h (value e' v it) =
+    let same : e' ≡ e = cc in
+    record {
+      vector = v;
+      one =
+          subst
+          (λ (x : Expr). IsTheOne (length p.names)
+          (λ y. StandsFor (relations_of p) y (unrolled x)) v)
+          same it;
+      written = refl;
+    }
+vector_reply p e q r h (yes u v k) = cc
+vector_reply p e q r h (no u v k) = cc
+vector_reply p e q r h (solution u v x k) = cc
+vector_reply p e q r h (quotient u v x k) = cc
+vector_reply p e q r h nothing = cc
 
-same_form : (p : Presented) (line : List ℕ) (fs gs : List Factor) → IsQuery p line gs → IsQuery p line fs → gs ≡ fs
-same_form p line fs gs h q = some_is gs fs (sym h.form ∙ q.form)
+module _ (p : Presented)
+    (reads : (line : List ℕ) (q : Query) → ReadsAs p.names line q ↔ (reading p.names line ≡ Ok q))
+    (fails : (line : List ℕ) (f : QueryFault)
+    → FailsWith p.names line f ↔ (reading p.names line ≡ Err f)) where
+  module _ (line : List ℕ) (e : Expr) (q : IsQuery p line (query.Value e)) where
+    is_read : reading p.names (strip_carriage_return line) ≡ Ok (query.Value e)
+    is_read = (reads (strip_carriage_return line) (query.Value e)).0 q.reads
 
-answered : (p : Presented) (line : List ℕ) (fs : List Factor) (text : List ℕ) → IsQuery p line fs → (IsWide p fs → ⊥) → IsReply p line text → IsAnswered p fs text
-answered p line fs text q n (nothing e) = absurd (q.some e)
-answered p line fs text q n (unread u) = absurd (is_read p line fs q u.cause)
-answered p line fs text q n (wide gs h w) = absurd (n (subst (IsWide p) (same_form p line fs gs h q) w))
-answered p line fs text q n (right gs v h k its) =
-    record { vector = v; its = subst (λ (x : List Factor). IsItsVector p x v) (same_form p line fs gs h q) its; written = refl }
+    same_query : (o : Query) → IsQuery p line o → o ≡ query.Value e
+    same_query o h =
+        let other : reading p.names (strip_carriage_return line) ≡ Ok o =
+        (reads (strip_carriage_return line) o).0 h.reads in
+        cc (is_read, other)
+
+    no_fault : (f : QueryFault) → IsFaulty p line f → ⊥
+    no_fault f h =
+        let other : reading p.names (strip_carriage_return line) ≡ Err f =
+        (fails (strip_carriage_return line) f).0 h.fails in
+        cc (is_read, other)
+
+    IsVectorReply-reply : (text : List ℕ) → (IsWide (central_table p) (query.Value e) → ⊥)
+        → IsReply p line text → IsVectorReply p e text
+    IsVectorReply-reply text n (long l) = absurd (omega (arith, l, q.within))
+    IsVectorReply-reply text n (faulty f h) = absurd (no_fault f h)
+    IsVectorReply-reply text n (wide o h w) =
+        absurd (n (subst (IsWide (central_table p)) (same_query o h) w))
+    IsVectorReply-reply text n (right o r h k is) = vector_reply p e o r (same_query o h) is
 
 module _ (p : Presented)
     (back : (u v : List Letter) → Congruent (relations_of p) 1 u v → Congruent (relations_of p) 1 v u)
-    (chain : (u v w : List Letter) → Congruent (relations_of p) 1 u v → Congruent (relations_of p) 1 v w → Congruent (relations_of p) 1 u w)
-    (fs gs : List Factor) (text text' : List ℕ) (a : IsAnswered p fs text) (b : IsAnswered p gs text') where
-  words_of_texts : text ≡ text' → Congruent (relations_of p) 1 (word_of_factors fs) (word_of_factors gs)
-  words_of_texts e =
-      let lines : as_line (vector_text a.vector) ≡ as_line (vector_text b.vector) = sym a.written ∙ e ∙ b.written in
+    (chain : (u v w : List Letter) → Congruent (relations_of p) 1 u v
+    → Congruent (relations_of p) 1 v w → Congruent (relations_of p) 1 u w)
+    (e f : Expr) (text text' : List ℕ)
+    (a : IsVectorReply p e text) (b : IsVectorReply p f text') where
+  words_of_texts : text ≡ text' → Congruent (relations_of p) 1 (unrolled e) (unrolled f)
+  words_of_texts h =
+      let lines : as_line (text_of_entries a.vector) ≡ as_line (text_of_entries b.vector) =
+      sym a.written ∙ h ∙ b.written in
       let same : a.vector ≡ b.vector =
-      vector_text-same a.vector b.vector (a.its.vector.entries ∙ sym b.its.vector.entries) a.its.small b.its.small (append_cancel_right (vector_text a.vector) (vector_text b.vector) (10 ∷ []) lines) in
-      chain (word_of_factors fs) (ordered b.vector) (word_of_factors gs)
-      (subst (λ (v : List ℤ). Congruent (relations_of p) 1 (word_of_factors fs) (ordered v)) same (back (ordered a.vector) (word_of_factors fs) a.its.stands)) b.its.stands
+      text_of_entries-same a.vector b.vector (a.one.vector.entries ∙ sym b.one.vector.entries)
+      a.one.small b.one.small
+      (append_cancel_right (text_of_entries a.vector) (text_of_entries b.vector) (10 ∷ []) lines) in
+      chain (unrolled e) (ordered b.vector) (unrolled f)
+      (subst (λ (v : List ℤ). Congruent (relations_of p) 1 (unrolled e) (ordered v)) same
+      (back (ordered a.vector) (unrolled e) a.one.holds)) b.one.holds
 
-  texts_of_words : Congruent (relations_of p) 1 (word_of_factors fs) (word_of_factors gs) → text ≡ text'
+  texts_of_words : Congruent (relations_of p) 1 (unrolled e) (unrolled f) → text ≡ text'
   texts_of_words h =
-      let same : b.vector ≡ a.vector = a.its.only b.vector b.its.vector
-      (chain (ordered b.vector) (word_of_factors gs) (word_of_factors fs) b.its.stands (back (word_of_factors fs) (word_of_factors gs) h)) in
-      a.written ∙ ap (λ (v : List ℤ). as_line (vector_text v)) (sym same) ∙ sym b.written
+      let same : b.vector ≡ a.vector =
+      a.one.only b.vector b.one.vector
+      (chain (ordered b.vector) (unrolled f) (unrolled e) b.one.holds
+      (back (unrolled e) (unrolled f) h)) in
+      a.written ∙ ap (λ (v : List ℤ). as_line (text_of_entries v)) (sym same) ∙ sym b.written
 
 module _ (p : Presented)
+    (reads : (line : List ℕ) (q : Query) → ReadsAs p.names line q ↔ (reading p.names line ≡ Ok q))
+    (fails : (line : List ℕ) (f : QueryFault)
+    → FailsWith p.names line f ↔ (reading p.names line ≡ Err f))
     (back : (u v : List Letter) → Congruent (relations_of p) 1 u v → Congruent (relations_of p) 1 v u)
-    (chain : (u v w : List Letter) → Congruent (relations_of p) 1 u v → Congruent (relations_of p) 1 v w → Congruent (relations_of p) 1 u w)
-    (line line' text text' : List ℕ) (fs gs : List Factor)
-    (q : IsQuery p line fs) (n : IsWide p fs → ⊥) (r : IsReply p line text)
-    (q' : IsQuery p line' gs) (n' : IsWide p gs → ⊥) (r' : IsReply p line' text') where
-  pub congruent_from_texts : text ≡ text' → Congruent (relations_of p) 1 (word_of_factors fs) (word_of_factors gs)
-  congruent_from_texts = words_of_texts p back chain fs gs text text' (answered p line fs text q n r) (answered p line' gs text' q' n' r')
-
-  pub texts_from_congruent : Congruent (relations_of p) 1 (word_of_factors fs) (word_of_factors gs) → text ≡ text'
-  texts_from_congruent = texts_of_words p back chain fs gs text text' (answered p line fs text q n r) (answered p line' gs text' q' n' r')
+    (chain : (u v w : List Letter) → Congruent (relations_of p) 1 u v
+    → Congruent (relations_of p) 1 v w → Congruent (relations_of p) 1 u w)
+    (line line' text text' : List ℕ) (e f : Expr)
+    (q : IsQuery p line (query.Value e)) (n : IsWide (central_table p) (query.Value e) → ⊥)
+    (r : IsReply p line text)
+    (q' : IsQuery p line' (query.Value f)) (n' : IsWide (central_table p) (query.Value f) → ⊥)
+    (r' : IsReply p line' text') where
+  pub equal-replies : (text ≡ text') ↔ Congruent (relations_of p) 1 (unrolled e) (unrolled f)
+  equal-replies =
+      let a = IsVectorReply-reply p reads fails line e q text n r in
+      let b = IsVectorReply-reply p reads fails line' f q' text' n' r' in
+      (words_of_texts p back chain e f text text' a b, texts_of_words p back chain e f text text' a b)

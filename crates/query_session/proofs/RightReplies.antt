@@ -1,71 +1,97 @@
 -- The replies that are computed are the right ones.
-use Rattle.std.proofs.Common.{◌≡◌, ℕ, ◌≤◌, ◌==◌, nat_lt, Bool, cond, true, false, ℤ, List, [], ◌∷◌, length, Option, Some, None, refl, inl, inr, codes, arith}
+use Rattle.std.proofs.Common.{◌≡◌, ◌↔◌, ℕ, ◌≤◌, nat_lt, Bool, cond, true, false, List, [], ◌∷◌, length, None, Result, Ok, Err, refl, subst, codes}
+use Rattle.std.specs.Str.Lines.{strip_carriage_return}
 use Rattle.std.proofs.lemmas.Bool.{ltb-true, ltb-false}
-use Rattle.std.proofs.lemmas.Bool.Decides.{nat_tests}
-use Rattle.nil_word.specs.declared.letter.Letter.{Letter}
-use Rattle.nil_word.specs.Words.{IsVector}
-use Rattle.nil_word.specs.Congruence.{StandsFor}
-use Rattle.nil_pres.specs.Presented.{Presented}
-use Rattle.query_session.specs.declared.factor.Factor.{Factor}
+use Rattle.nil_word.specs.declared.query.Query.{Query}
+use Rattle.nil_word.specs.Queries.{IsShapedQuery}
+use Rattle.hall_law.specs.Table.{IsTable}
+use Rattle.hall_table.specs.Multiplies.{Paired, IsChecked}
+use Rattle.hall_table.specs.Tabled.{IsTabled, last_of}
+use Rattle.hall_table.specs.Values.{values}
+use Rattle.nil_pres.specs.Presented.{Presented, IsPresented}
+use Rattle.nil_pres.specs.Relations.{relations_of}
+use Rattle.word_text.specs.declared.query_fault.QueryFault.{QueryFault}
+use Rattle.word_text.specs.Lines.{ReadsAs, FailsWith}
+use Rattle.word_text.specs.Reading.{reading}
+use Rattle.central_table.specs.Central.{central_table, not_central}
+use Rattle.group_eval.specs.declared.reply.Reply.{Reply}
+use Rattle.group_eval.specs.declared.reply.Reply.TheVariants as reply_kind
+use Rattle.group_eval.specs.Queries.{answered, IsWide}
+use Rattle.group_eval.specs.Right.{IsRightReply}
+use Rattle.group_eval.specs.Laws.{OfChecked, AnsweredIs}
 use Rattle.query_session.specs.Pieces.{as_line}
 use Rattle.query_session.specs.Limits.{line_limit}
-use Rattle.query_session.specs.Central.{relations_of}
-use Rattle.query_session.specs.Factors.{factors}
-use Rattle.query_session.specs.Value.{value, word_of_factors, AreFactors}
-use Rattle.query_session.specs.Replies.{value_text, factors_text, reply, replies}
-use Rattle.query_session.specs.Right.{IsQuery, IsItsVector, IsReply, nothing, unread, wide, right, AreReplies}
-use Rattle.query_session.proofs.LineFactors.{factors_within, AreFactors-fit}
-use Rattle.query_session.proofs.SmallValues.{value_small}
-
-no_bytes : (line : List ℕ) → (length line == 0) ≡ true → line ≡ []
-no_bytes [] h = refl
-no_bytes (b ∷ bs) h = absurd (grind (arith, nat_tests))
-
-some_bytes : (line : List ℕ) → (length line == 0) ≡ false → line ≡ [] → ⊥
-some_bytes [] h e = cc
-some_bytes (b ∷ bs) h e = cc
+use Rattle.query_session.specs.Replies.{line_of, reply_to, reply, replies}
+use Rattle.query_session.specs.Right.{IsQuery, IsReply, long, faulty, wide, right, AreReplies}
 
 module _ (p : Presented)
-    (vector : (fs : List Factor) (v : List ℤ) → AreFactors (length p.names) fs → value p fs ≡ Some v → IsVector (length p.names) 1 v)
-    (stands : (fs : List Factor) (v : List ℤ) → AreFactors (length p.names) fs → value p fs ≡ Some v → StandsFor (relations_of p) v (word_of_factors fs))
-    (only : (u v : List ℤ) (w : List Letter) → IsVector (length p.names) 1 u → IsVector (length p.names) 1 v → StandsFor (relations_of p) u w → StandsFor (relations_of p) v w → u ≡ v) where
-  its_vector : (line : List ℕ) (fs : List Factor) (v : List ℤ) → factors p.names line ≡ Some fs → value p fs ≡ Some v → IsItsVector p fs v
-  its_vector line fs v form e =
-      let fit = factors_within p.names line fs form in
-      let are = AreFactors-fit (length p.names) fs fit in
-      record {
-        vector = vector fs v are e;
-        small = value_small p (length p.names) fs v fit e;
-        stands = stands fs v are e;
-        only = λ u h k. only u v (word_of_factors fs) h (vector fs v are e) k (stands fs v are e);
-      }
+    (reads : (line : List ℕ) (q : Query) → ReadsAs p.names line q ↔ (reading p.names line ≡ Ok q))
+    (fails : (line : List ℕ) (f : QueryFault)
+    → FailsWith p.names line f ↔ (reading p.names line ≡ Err f))
+    (shaped : (line : List ℕ) (q : Query) → ReadsAs p.names line q → IsShapedQuery (length p.names) q)
+    (rightly : (q : Query) → IsShapedQuery (length p.names) q → (IsWide (central_table p) q → ⊥)
+    → IsRightReply (relations_of p) q (answered (central_table p) q)) where
+  module _ (line : List ℕ) (q : Query) (h : IsQuery p line q) where
+    not_wide : (r : Reply) → answered (central_table p) q ≡ r → (r ≡ reply_kind.Wide → ⊥)
+        → IsReply p line (line_of r)
+    not_wide r e other =
+        let narrow : IsWide (central_table p) q → ⊥ =
+        λ w. let same : r ≡ reply_kind.Wide = cc in other same in
+        right q r h narrow
+        (subst (IsRightReply (relations_of p) q) e
+        (rightly q (shaped (strip_carriage_return line) q h.reads) narrow))
 
-  IsReply-value : (line : List ℕ) (fs : List Factor) → IsQuery p line fs → IsReply p line (as_line (value_text (value p fs)))
-  IsReply-value line fs q = at (value p fs) refl
+    IsReply-answered : IsReply p line (line_of (answered (central_table p) q))
+    IsReply-answered = at (answered (central_table p) q) refl
+      where
+        at : (r : Reply) → answered (central_table p) q ≡ r → IsReply p line (line_of r)
+        at reply_kind.Wide e = wide q h e
+        at (reply_kind.Vector v) e = not_wide (reply_kind.Vector v) e (λ same. cc)
+        at reply_kind.Yes e = not_wide reply_kind.Yes e (λ same. cc)
+        at reply_kind.No e = not_wide reply_kind.No e (λ same. cc)
+        at reply_kind.Nothing e = not_wide reply_kind.Nothing e (λ same. cc)
+
+  IsReply-reply_to : (line : List ℕ) → length line ≤ line_limit
+      → IsReply p line (reply_to p (reading p.names (strip_carriage_return line)))
+  IsReply-reply_to line within = at (reading p.names (strip_carriage_return line)) refl
     where
-      at : (o : Option (List ℤ)) → value p fs ≡ o → IsReply p line (as_line (value_text o))
-      at None e = wide fs q e
-      at (Some v) e = right fs v q (λ none. cc) (its_vector line fs v q.form e)
-
-  IsReply-factors : (line : List ℕ) → (line ≡ [] → ⊥) → length line ≤ line_limit → IsReply p line (as_line (factors_text p (factors p.names line)))
-  IsReply-factors line some within = at (factors p.names line) refl
-    where
-      at : (o : Option (List Factor)) → factors p.names line ≡ o → IsReply p line (as_line (factors_text p o))
-      at None e = unread (record { some = some; cause = inr e })
-      at (Some fs) e = IsReply-value line fs (record { some = some; within = within; form = e })
-
-  IsReply-some : (line : List ℕ) → (line ≡ [] → ⊥) → (long : Bool) → nat_lt line_limit (length line) ≡ long
-      → IsReply p line (as_line (cond long (codes "unread") (factors_text p (factors p.names line))))
-  IsReply-some line some true e = unread (record { some = some; cause = inl (ltb-true line_limit (length line) e) })
-  IsReply-some line some false e = IsReply-factors line some (ltb-false line_limit (length line) e)
+      at : (found : Result Query QueryFault) → reading p.names (strip_carriage_return line) ≡ found
+          → IsReply p line (reply_to p found)
+      at (Ok q) e =
+          IsReply-answered line q
+          (record { within = within; reads = (reads (strip_carriage_return line) q).1 e })
+      at (Err f) e =
+          faulty f (record { within = within; fails = (fails (strip_carriage_return line) f).1 e })
 
   IsReply-reply : (line : List ℕ) → IsReply p line (reply p line)
-  IsReply-reply line = at (length line == 0) refl
+  IsReply-reply line = at (nat_lt line_limit (length line)) refl
     where
-      at : (b : Bool) → (length line == 0) ≡ b → IsReply p line (cond b [] (as_line (cond (nat_lt line_limit (length line)) (codes "unread") (factors_text p (factors p.names line)))))
-      at true e = nothing (no_bytes line e)
-      at false e = IsReply-some line (some_bytes line e) (nat_lt line_limit (length line)) refl
+      at : (b : Bool) → nat_lt line_limit (length line) ≡ b
+          → IsReply p line
+          (cond b (as_line (codes "long"))
+          (reply_to p (reading p.names (strip_carriage_return line))))
+      at true e = long (ltb-true line_limit (length line) e)
+      at false e = IsReply-reply_to line (ltb-false line_limit (length line) e)
 
-  pub AreReplies-replies : (lines : List (List ℕ)) → AreReplies p lines (replies p lines)
+  AreReplies-replies : (lines : List (List ℕ)) → AreReplies p lines (replies p lines)
   AreReplies-replies [] = refl
-  AreReplies-replies (line ∷ lines) = (reply p line, replies p lines, IsReply-reply line, AreReplies-replies lines, refl)
+  AreReplies-replies (line ∷ lines) =
+      (reply p line, replies p lines, IsReply-reply line, AreReplies-replies lines, refl)
+
+-- by the law of replies at the table of a central presentation
+pub right-replies : OfChecked AnsweredIs
+    → ((q : Presented) → IsPresented q → IsTabled (central_table q))
+    → ((q : Presented) → last_of (central_table q) ≡ length q.names)
+    → ((q : Presented) → IsPresented q → not_central q ≡ None
+    → IsTable (relations_of q) 1 (values (central_table q)))
+    → (p : Presented)
+    → ((line : List ℕ) (q : Query) → ReadsAs p.names line q ↔ (reading p.names line ≡ Ok q))
+    → ((line : List ℕ) (f : QueryFault) → FailsWith p.names line f ↔ (reading p.names line ≡ Err f))
+    → ((line : List ℕ) (q : Query) → ReadsAs p.names line q → IsShapedQuery (length p.names) q)
+    → (lines : List (List ℕ)) → IsPresented p → not_central p ≡ None
+    → AreReplies p lines (replies p lines)
+right-replies answers tabled last multiplies p reads fails shaped lines h none =
+    let c : Paired = record { pres = p; table = central_table p } in
+    let checked : IsChecked c = record { last = last p; multiplies = multiplies p h none } in
+    AreReplies-replies p reads fails shaped
+    (λ q shape narrow. answers c h (tabled p h) checked q refl shape narrow) lines

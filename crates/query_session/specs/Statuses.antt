@@ -1,9 +1,9 @@
 -- The numbers and the texts of statuses.
---   number_of status   the number that the program ends with
---   kind_text kind     the kind of a fault of a file, in lower-case letters
+--   number_of status          the number that the program ends with
+--   kind_text kind            the kind of a fault of a file, in lower-case letters
 --   bad_file_text line kind   the place and the kind of a file's first fault
---   text_of status     the line that a status writes, without its line feed; nothing more where it is Done,
---                      WriteFault or Memory
+--   text_of status            the line that a status writes, without its line feed; nothing more where
+--                             it is Done, WriteFault or Memory
 use Rattle.std.specs.Prelude.{ℕ, List, [], ◌++◌, codes}
 use Rattle.std.specs.Fmt.{decimal}
 use Rattle.pres_text.specs.declared.file_kind.FileKind.{FileKind}

@@ -1,6 +1,7 @@
 -- Bytes of which a front may be written.
 --   EndsAtLine bytes           none, or the last one is a line feed
---   IsStopped text old new s   a front of the text was written; where memory is wanting it ends at a line's end
+--   IsStopped text old new s   a front of the text was written; where memory is wanting it ends at a
+--                              line's end
 --   stop_status s              the status of a stop
 --   Ended text status .. r     the text was written and r is the status, or writing stopped
 use Rattle.std.specs.Prelude.{◌≡◌, ℕ, ◌⊎◌, List, [], ◌++◌, Option}
@@ -15,8 +16,10 @@ abbrev pub EndsAtLine : List ℕ → Type 0
 EndsAtLine bytes = (bytes ≡ []) ⊎ ((text : List ℕ) × (bytes ≡ as_line text))
 
 pub data IsStopped (text : List ℕ) (old new : Option (List ℕ)) : Stop → Type 0 where
-  failed : (front rest : List ℕ) → text ≡ front ++ rest → Appends old new front → IsStopped text old new stop.Failed
-  short : (front rest : List ℕ) → text ≡ front ++ rest → Appends old new front → EndsAtLine front → IsStopped text old new stop.Memory
+  failed : (front rest : List ℕ) → text ≡ front ++ rest → Appends old new front
+      → IsStopped text old new stop.Failed
+  short : (front rest : List ℕ) → text ≡ front ++ rest → Appends old new front → EndsAtLine front
+      → IsStopped text old new stop.Memory
 
 abbrev pub stop_status : Stop → Status
 stop_status stop.Failed = s.WriteFault

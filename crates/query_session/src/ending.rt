@@ -8,28 +8,29 @@ ghost use Rattle.query_session.specs.Statuses.{text_of};
 ghost use Rattle.query_session.specs.Writing.{Ended, stop_status};
 
 use super::answering::{answer_line, answer_lines};
+use super::calculator::Calculator;
 use super::saying::say;
 use super::status::Status;
 use super::stop::Stop;
 use nil_io::Sink;
-use nil_pres::Presentation;
 use std::alloc::Global;
 
 /// Answers all lines.
 pub(crate) fn answer_all<K: Sink>(
     alloc: Global,
-    pres: &Presentation,
+    calculator: &mut Calculator,
     bytes: &[u8],
     out: &mut K,
 ) -> Status
-    ensures ended { Ended (replies pres.now (lines_of bytes.now)) Status.Done (K.written out.old) (K.written out.new) result }
+    ensures ended { Ended (replies calculator.old (lines_of bytes.now)) Status.Done
+        (K.written out.old) (K.written out.new) result }
     ensures cause { result ≡ Status.WriteFault → Rose (K.faults out.old) (K.faults out.new) }
 {
-    let rest = match answer_lines(alloc, pres, bytes, out) {
+    let rest = match answer_lines(alloc, calculator, bytes, out) {
         Ok(rest) => rest,
         Err(stop) => return status_of(stop),
     };
-    match answer_line(alloc, pres, rest, out) {
+    match answer_line(alloc, calculator, rest, out) {
         Ok(()) => Status::Done,
         Err(stop) => status_of(stop),
     }
@@ -38,15 +39,17 @@ pub(crate) fn answer_all<K: Sink>(
 /// Answers the lines that end with a line feed, and writes the text of a status behind them.
 pub(crate) fn answer_whole<K: Sink>(
     alloc: Global,
-    pres: &Presentation,
+    calculator: &mut Calculator,
     bytes: &[u8],
     out: &mut K,
     status: Status,
 ) -> Status
-    ensures ended { Ended (replies pres.now (whole_lines bytes.now) ++ as_line (text_of status)) status (K.written out.old) (K.written out.new) result }
-    ensures cause { result ≡ Status.WriteFault → (status ≡ Status.WriteFault) ⊎ Rose (K.faults out.old) (K.faults out.new) }
+    ensures ended { Ended (replies calculator.old (whole_lines bytes.now) ++ as_line (text_of status))
+        status (K.written out.old) (K.written out.new) result }
+    ensures cause { result ≡ Status.WriteFault
+        → (status ≡ Status.WriteFault) ⊎ Rose (K.faults out.old) (K.faults out.new) }
 {
-    let _rest = match answer_lines(alloc, pres, bytes, out) {
+    let _rest = match answer_lines(alloc, calculator, bytes, out) {
         Ok(rest) => rest,
         Err(stop) => return status_of(stop),
     };
@@ -58,9 +61,12 @@ pub(crate) fn answer_whole<K: Sink>(
 
 /// Writes the text of a status alone, and nothing where memory is wanting.
 pub(crate) fn refuse<K: Sink>(alloc: Global, out: &mut K, status: Status) -> Status
-    ensures ended { status ≢ Status.Memory → Ended (as_line (text_of status)) status (K.written out.old) (K.written out.new) result }
-    ensures memory { status ≡ Status.Memory → (result ≡ Status.Memory) × (K.written out.new ≡ K.written out.old) }
-    ensures cause { result ≡ Status.WriteFault → (status ≡ Status.WriteFault) ⊎ Rose (K.faults out.old) (K.faults out.new) }
+    ensures ended { status ≢ Status.Memory
+        → Ended (as_line (text_of status)) status (K.written out.old) (K.written out.new) result }
+    ensures memory { status ≡ Status.Memory
+        → (result ≡ Status.Memory) × (K.written out.new ≡ K.written out.old) }
+    ensures cause { result ≡ Status.WriteFault
+        → (status ≡ Status.WriteFault) ⊎ Rose (K.faults out.old) (K.faults out.new) }
 {
     match status {
         Status::Memory => Status::Memory,

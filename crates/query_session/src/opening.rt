@@ -1,27 +1,30 @@
 //! The presentation that the words name.
 
-ghost use Rattle.std.specs.Prelude.{◌≡◌, None, IfOk, IfErr, option_map};
+ghost use Rattle.std.specs.Prelude.{◌≡◌, ◌⊎◌, ℕ, List, Some, None, IfOk, IfErr, option_map};
 ghost use Rattle.pres_text.specs.File.{IsFile};
+ghost use Rattle.pres_text.specs.FirstFault.{first_fault};
 ghost use Rattle.nil_word.specs.Congruence.{IsConsistent};
-ghost use Rattle.query_session.specs.Central.{relations_of, not_central};
-ghost use Rattle.query_session.specs.Runs.{texts, run_name, asked, HasOpened, HasRefused, IsJudged};
+ghost use Rattle.nil_pres.specs.Relations.{relations_of};
+ghost use Rattle.central_table.specs.Central.{not_central};
+ghost use Rattle.query_session.specs.Outside.{texts, run_name, asked};
+ghost use Rattle.query_session.specs.Runs.{HasOpened, HasRefused, IsJudged};
 
-use super::central::first_outside;
-use super::central_laws::central_values;
+use super::calculator::Calculator;
+use super::laws::consistent;
 use super::status::Status;
 use super::usage_kind::UsageKind;
 use super::words::Words;
+use central_table::first_outside;
 use nil_io::{Shelf, ShelfFault};
-use nil_pres::Presentation;
 use pres_text::PresFault;
 use std::alloc::Global;
 
-/// The central presentation that the words name, or the status that refuses it.
+/// The calculator of the central presentation that the words name, or the status that refuses it.
 pub(crate) fn open<H: Shelf>(
     alloc: Global,
     words: &Words,
     shelf: &mut H,
-) -> Result<Presentation, Status>
+) -> Result<Calculator, Status>
     ensures opened { IfOk result (HasOpened (asked (texts words.now.items) (H.contents shelf.old)
         (H.faults shelf.old) (H.faults shelf.new) (H.longs shelf.old) (H.longs shelf.new))) }
     ensures refused { IfErr result (HasRefused (asked (texts words.now.items) (H.contents shelf.old)
@@ -54,23 +57,36 @@ fn presentation_name(words: &Words) -> Option<&str>
     }
 }
 
-/// The presentation of a file, where it has no fault and is central.
-fn read_central(alloc: Global, file: &[u8]) -> Result<Presentation, Status>
+/// The calculator of a file, where it has no fault and its presentation is central.
+fn read_central(alloc: Global, file: &[u8]) -> Result<Calculator, Status>
     ensures opened { IfOk result (λ p. IsFile p file.now) }
     ensures central { IfOk result (λ p. not_central p ≡ None) }
     ensures consistent { IfOk result (λ p. IsConsistent (relations_of p) 1) }
     ensures refused { IfErr result (IsJudged file.now) }
 {
-    central_values();
+    consistent();
     match pres_text::read(alloc, file) {
         Ok(pres) => match first_outside(&pres) {
-            None => Ok(pres),
+            None => match Calculator::of(alloc, pres) {
+                Ok(calculator) => Ok(calculator),
+                Err(_) => Err(Status::Memory),
+            },
             Some(pair) => Err(Status::NotCentral {
                 j: pair.1,
                 i: pair.0,
             }),
         },
-        Err(PresFault::File { line, kind }) => Err(Status::BadFile { line, kind }),
-        Err(PresFault::Memory) => Err(Status::Memory),
+        Err(fault) => Err(fault_status(fault)),
+    }
+}
+
+/// The status of a file's fault.
+fn fault_status(fault: PresFault) -> Status
+    ensures { (file : List ℕ) → (fault ≡ PresFault.Memory) ⊎ (first_fault file ≡ Some fault)
+        → IsJudged file result }
+{
+    match fault {
+        PresFault::File { line, kind } => Status::BadFile { line, kind },
+        PresFault::Memory => Status::Memory,
     }
 }

@@ -1,73 +1,94 @@
 //! The texts of replies.
 
-ghost use Rattle.std.specs.Prelude.{◌≡◌, ◌++◌, codes, length, nat_lt, string_bytes, IfOk, OnOk, if◌then◌else◌};
-ghost use Rattle.std.specs.Fmt.{signed_decimal};
-ghost use Rattle.query_session.specs.Factors.{factors};
-ghost use Rattle.query_session.specs.Limits.{line_limit};
-ghost use Rattle.query_session.specs.Replies.{vector_text, entry_text, factors_text, reply};
+ghost use Rattle.std.specs.Prelude.{◌≡◌, ◌++◌, string_bytes, IfOk, OnOk};
+ghost use Rattle.std.specs.Fmt.{decimal};
+ghost use Rattle.std.specs.Str.Lines.{strip_carriage_return};
+ghost use Rattle.word_text.specs.declared.query_fault.QueryFault.{QueryFault};
+ghost use Rattle.query_session.specs.Pieces.{as_line};
+ghost use Rattle.query_session.specs.Replies.{fault_text, line_of, reply};
 
-use super::evaluator::evaluate;
-use super::factors::read_factors;
-use nil_pres::Presentation;
-use nil_word::Vector;
+use super::calculator::Calculator;
+use group_eval::Reply;
 use std::alloc::{AllocError, Global};
 use std::fmt::Write;
+use word_text::laws::readings;
+use word_text::{QueryFault, read_query, vector_text};
 
-/// The reply to a line with its line feed, or nothing for an empty line.
+/// The reply to a line with its line feed, or nothing for a blank one.
 pub(crate) fn reply_to(
     alloc: Global,
-    pres: &Presentation,
+    calculator: &mut Calculator,
     line: &[u8],
 ) -> Result<String, AllocError>
-    ensures { IfOk result (λ text. string_bytes text ≡ reply pres.now line.now) }
+    ensures text { IfOk result (λ text. string_bytes text ≡ reply calculator.old line.now) }
+    ensures same { calculator.new ≡ calculator.old }
 {
-    if line.is_empty() {
-        return Ok(String::new(alloc));
+    readings();
+    if line.len() > 65536 {
+        return String::from_str(alloc, "long\n");
     }
-    let mut text = reply_text(alloc, pres, line)?;
+    match read_query(alloc, calculator.pres(), without_return(line)) {
+        Ok(query) => {
+            let reply = calculator.answer(alloc, &query)?;
+            reply_line(alloc, &reply)
+        }
+        Err(QueryFault::Memory) => Err(AllocError),
+        Err(fault) => fault_line(alloc, fault),
+    }
+}
+
+/// The line without a carriage return at its end.
+fn without_return(line: &[u8]) -> &[u8]
+    ensures { result.now ≡ strip_carriage_return line.now }
+{
+    match line {
+        [front @ .., b'\r'] => front,
+        _ => line,
+    }
+}
+
+/// A reply as a line.
+fn reply_line(alloc: Global, reply: &Reply) -> Result<String, AllocError>
+    ensures { IfOk result (λ text. string_bytes text ≡ line_of reply.now) }
+{
+    match reply {
+        Reply::Vector(vector) => {
+            let mut text = vector_text(alloc, vector)?;
+            text.push_str("\n")?;
+            Ok(text)
+        }
+        Reply::Yes => String::from_str(alloc, "yes\n"),
+        Reply::No => String::from_str(alloc, "no\n"),
+        Reply::Wide => String::from_str(alloc, "wide\n"),
+        Reply::Nothing => Ok(String::new(alloc)),
+    }
+}
+
+/// The first fault of a line as a line. There is none where memory was wanting.
+fn fault_line(alloc: Global, fault: QueryFault) -> Result<String, AllocError>
+    ensures { IfOk result (λ text. string_bytes text ≡ as_line (fault_text fault)) }
+{
+    match fault {
+        QueryFault::Syntax(place) => placed(alloc, "syntax ", place),
+        QueryFault::Unknown(place) => placed(alloc, "unknown ", place),
+        QueryFault::Number(place) => placed(alloc, "number ", place),
+        QueryFault::Deep(place) => placed(alloc, "deep ", place),
+        QueryFault::Memory => String::from_str(alloc, "\n"),
+    }
+}
+
+/// A kind and a place as a line.
+fn placed(alloc: Global, kind: &str, place: usize) -> Result<String, AllocError>
+    ensures { IfOk result (λ text. string_bytes text ≡ as_line (kind.now ++ decimal place)) }
+{
+    let mut text = String::from_str(alloc, kind)?;
+    push_place(&mut text, place)?;
     text.push_str("\n")?;
     Ok(text)
 }
 
-fn reply_text(alloc: Global, pres: &Presentation, line: &[u8]) -> Result<String, AllocError>
-    ensures { IfOk result (λ text. string_bytes text ≡
-        (if nat_lt line_limit (length line.now) then codes "unread" else factors_text pres.now (factors pres.now.names line.now))) }
+fn push_place(text: &mut String, place: usize) -> Result<(), AllocError>
+    ensures { OnOk result (string_bytes text.new ≡ string_bytes text.old ++ decimal place) }
 {
-    if line.len() > 65536 {
-        return String::from_str(alloc, "unread");
-    }
-    let Some(factors) = read_factors(alloc, pres, line)? else {
-        return String::from_str(alloc, "unread");
-    };
-    let Some(vector) = evaluate(alloc, pres, factors.as_slice())? else {
-        return String::from_str(alloc, "wide");
-    };
-    text_of_vector(alloc, &vector)
-}
-
-/// The entries in decimal, one space between.
-fn text_of_vector(alloc: Global, vector: &Vector) -> Result<String, AllocError>
-    ensures { IfOk result (λ text. string_bytes text ≡ vector_text vector.now) }
-{
-    let mut text = String::new(alloc);
-    for (place, entry) in vector.entries().iter().enumerate() {
-        push_entry(&mut text, place, entry)?;
-    }
-    Ok(text)
-}
-
-/// Appends an entry, behind a space where it isn't the first.
-fn push_entry(text: &mut String, place: usize, entry: &i128) -> Result<(), AllocError>
-    ensures { OnOk result (string_bytes text.new ≡ string_bytes text.old ++ entry_text place entry.now) }
-{
-    if place > 0 {
-        text.push_str(" ")?;
-    }
-    push_number(text, *entry)
-}
-
-fn push_number(text: &mut String, number: i128) -> Result<(), AllocError>
-    ensures { OnOk result (string_bytes text.new ≡ string_bytes text.old ++ signed_decimal number) }
-{
-    write!(text, "{number}")
+    write!(text, "{place}")
 }

@@ -18,8 +18,10 @@ use std::fmt::Write;
 
 /// Writes the text of a status as a line.
 pub(crate) fn say<K: Sink>(alloc: Global, out: &mut K, status: Status) -> Result<(), Stop>
-    ensures ok { OnOk result (Appends (K.written out.old) (K.written out.new) (as_line (text_of status))) }
-    ensures err { IfErr result (IsStopped (as_line (text_of status)) (K.written out.old) (K.written out.new)) }
+    ensures ok { OnOk result (Appends (K.written out.old) (K.written out.new)
+        (as_line (text_of status))) }
+    ensures err { IfErr result (IsStopped (as_line (text_of status))
+        (K.written out.old) (K.written out.new)) }
     ensures later { K.faults out.old ≤ K.faults out.new }
     ensures cause { IsErrOf result Stop.Failed → Rose (K.faults out.old) (K.faults out.new) }
 {

@@ -1,4 +1,4 @@
-//! Files and lines above their limits.
+//! Files, lines and queries about their limits.
 
 use super::fixtures::{HEISENBERG, answered};
 use query_session::Status;
@@ -14,11 +14,14 @@ fn a_file_above_the_limit_is_long_input(rt: HostRuntime) -> Result<(), Fail> {
 }
 
 #[test]
-fn a_line_above_the_limit_is_unread(rt: HostRuntime) -> Result<(), Fail> {
-    let line = vec![in rt.alloc(); b'1'; 65537]?;
-    let ended = answered(rt.alloc(), HEISENBERG.as_bytes(), &line)?;
-    assert_eq!(rt; ended.bytes.as_slice(), b"unread\n".as_slice());
-    assert_eq!(rt; ended.status, Status::Done);
+fn a_line_above_the_limit_is_long(rt: HostRuntime) -> Result<(), Fail> {
+    let mut line = vec![in rt.alloc(); b' '; 65536]?;
+    let within = answered(rt.alloc(), HEISENBERG.as_bytes(), &line)?;
+    assert_eq!(rt; within.bytes.as_slice(), b"".as_slice());
+    line.push(b' ')?;
+    let above = answered(rt.alloc(), HEISENBERG.as_bytes(), &line)?;
+    assert_eq!(rt; above.bytes.as_slice(), b"long\n".as_slice());
+    assert_eq!(rt; above.status, Status::Done);
     Ok(())
 }
 

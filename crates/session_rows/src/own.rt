@@ -1,10 +1,10 @@
-//! A shelf of the tests' own.
+//! A shelf and a source of the tests' own, and the sure forms.
 
 ghost use Rattle.std.specs.Prelude.{ℕ, List, None};
 ghost use Rattle.std.specs.declared.option.Option.{Option};
 
-use super::fixtures::{source_of, words_of};
-use nil_io::{MemorySink, Shelf, ShelfFault};
+use super::fixtures::{HEISENBERG, shelf_of, source_of, words_of};
+use nil_io::{Failed, MemorySink, Shelf, ShelfFault, Source, SureShelf, SureSink, SureSource};
 use query_session::{Status, session};
 use std::alloc::Global;
 use std::test::Fail;
@@ -38,5 +38,59 @@ fn a_shelf_without_memory_ends_the_session(rt: HostRuntime) -> Result<(), Fail> 
     let status = session(rt.alloc(), &words, &mut shelf, &mut source, &mut sink);
     assert_eq!(rt; status, Status::Memory);
     assert!(rt; sink.bytes().is_empty());
+    Ok(())
+}
+
+/// A source that gives the line `a3`, and then the letter `a` for ever. It tells nothing.
+#[derive(Drop)]
+struct Endless {
+    given: u64,
+}
+
+impl Source for Endless {
+    ghost left = { λ _. None };
+
+    ghost faults = { λ _. 0 };
+
+    ghost given = { λ s. s.given };
+
+    fn read(&mut self, buf: &mut [u8]) -> Result<usize, Failed> {
+        buf.fill(b'a');
+        if self.given == 0 && buf.len() >= 3 {
+            buf[1] = b'3';
+            buf[2] = b'\n';
+        }
+        self.given = self.given.saturating_add(buf.len() as u64);
+        Ok(buf.len())
+    }
+}
+
+#[test]
+fn a_source_without_an_end_is_long_input(rt: HostRuntime) -> Result<(), Fail> {
+    let words = words_of(rt.alloc(), &["run", "f"])?;
+    let mut shelf = shelf_of(rt.alloc(), HEISENBERG.as_bytes(), &[])?;
+    let mut source = Endless { given: 0 };
+    let room = Vec::with_capacity(rt.alloc(), 64)?;
+    let mut sink = MemorySink::new(room, Vec::new(rt.alloc()));
+    let status = session(rt.alloc(), &words, &mut shelf, &mut source, &mut sink);
+    assert_eq!(rt; status, Status::LongInput);
+    assert_eq!(rt; sink.bytes(), b"0 0 1\nlong input\n".as_slice());
+    Ok(())
+}
+
+#[test]
+fn a_session_over_forms_that_never_fail_is_done(rt: HostRuntime) -> Result<(), Fail> {
+    let alloc = rt.alloc();
+    let words = words_of(alloc, &["run", "f"])?;
+    let mut files = Vec::new(alloc);
+    files.push((
+        String::from_str(alloc, "f")?,
+        HEISENBERG.as_bytes().to_vec(alloc)?,
+    ))?;
+    let mut shelf = SureShelf::new(files);
+    let mut source = SureSource::new(b"a1\na2*(a1".to_vec(alloc)?, 3);
+    let mut sink = SureSink::new();
+    let status = session(alloc, &words, &mut shelf, &mut source, &mut sink);
+    assert_eq!(rt; status, Status::Done);
     Ok(())
 }

@@ -1,7 +1,6 @@
 //! Statuses other than `Done`.
 
 use super::fixtures::{Ended, HEISENBERG, answered, run_over, shelf_of, source_of, words_of};
-use pres_text::FileKind;
 use query_session::{Status, UsageKind};
 use std::alloc::{AllocError, Global};
 use std::test::Fail;
@@ -13,15 +12,6 @@ fn a_right_side_outside_the_centre_is_named(rt: HostRuntime) -> Result<(), Fail>
     let ended = answered(rt.alloc(), OUTSIDE.as_bytes(), b"a1")?;
     assert_eq!(rt; ended.bytes.as_slice(), b"not central\n".as_slice());
     assert_eq!(rt; ended.status, Status::NotCentral { j: 3, i: 2 });
-    Ok(())
-}
-
-#[test]
-fn the_fault_of_a_file_is_named(rt: HostRuntime) -> Result<(), Fail> {
-    let ended = answered(rt.alloc(), b"nilpotent 1\ngenerators a a\n", b"a")?;
-    assert_eq!(rt; ended.bytes.as_slice(), b"file 2 twicename\n".as_slice());
-    let kind = FileKind::TwiceName;
-    assert_eq!(rt; ended.status, Status::BadFile { line: 2, kind });
     Ok(())
 }
 

@@ -2,17 +2,38 @@
 
 use super::fixtures::{HEISENBERG, answered};
 use query_session::Status;
+use std::alloc::{AllocError, Global};
 use std::test::Fail;
 
 #[rattlefmt::skip]
-const ROWS: [(&str, &str); 6] = [
-    ("a2^3*a1^5", "5 3 15\n"),
-    ("a1^5*a2^3\n", "5 3 0\n"),
+const ROWS: [(&str, &str); 24] = [
+    ("a2^3*a1^5",                    "5 3 15\n"),
+    ("a1^5*a2^3\n",                  "5 3 0\n"),
+    ("1\n\n# note\n",                "0 0 0\n"),
+    ("(a1*a2)^-1",                   "-1 -1 1\n"),
+    ("(a1*a2)^10",                   "10 10 45\n"),
+    ("solve a2 | a1\nsolve a1 | a2", "1 -1 -1\n-1 1 0\n"),
+    ("a2*a1 = a1*a2\n[a2,a1] = a3",  "no\nyes\n"),
+    ("quotient a1 | a2\nquotient a2 | a1", "1 -1 0\n-1 1 -1\n"),
+    ("a1^a2\na2^a1",                 "1 0 -1\n0 1 1\n"),
+    ("[a2,a1]^0",                    "0 0 0\n"),
+    ("1^170141183460469231731687303715884105727", "0 0 0\n"),
     ("a2^85070591730234615865843651857942052863*a1^2",
         "2 85070591730234615865843651857942052863 170141183460469231731687303715884105726\n"),
     ("a2^85070591730234615865843651857942052864*a1^2", "wide\n"),
-    ("a1^\n\na3", "unread\n0 0 1\n"),
-    ("a1^-0\na1^007*a1^-7\na1 \na1\r\nb", "0 0 0\n0 0 0\nunread\nunread\nunread\n"),
+    ("a1^-170141183460469231731687303715884105728", "number 4\n"),
+    ("a2*(a1\na3",                   "syntax 7\n0 0 1\n"),
+    ("a3^2^3",                       "syntax 5\n"),
+    ("b7",                           "unknown 1\n"),
+    // a carriage return before a line feed or at the end is no part of the line, blanks are
+    ("a1 \r\n",                      "1 0 0\n"),
+    ("a1 \r",                        "1 0 0\n"),
+    ("a1*\r\n",                      "syntax 4\n"),
+    ("a1\r\r\n",                     "syntax 3\n"),
+    ("\r\n \t\r\n",                  ""),
+    ("",                             ""),
+    // a wide line keeps nothing back from the next
+    ("a1^170141183460469231731687303715884105727*a1\na1", "wide\n1 0 0\n"),
 ];
 
 #[test]
@@ -25,11 +46,19 @@ fn lines_get_the_replies_that_were_worked_by_hand(rt: HostRuntime) -> Result<(),
     Ok(())
 }
 
+#[test]
+fn the_bracket_that_is_too_deep_is_named(rt: HostRuntime) -> Result<(), Fail> {
+    let line = vec![in rt.alloc(); b'('; 201]?;
+    let ended = answered(rt.alloc(), HEISENBERG.as_bytes(), &line)?;
+    assert_eq!(rt; ended.bytes.as_slice(), b"deep 201\n".as_slice());
+    Ok(())
+}
+
 const RENAMED: &str = "# Heisenberg\r\nnilpotent 1\r\ngenerators s t c\r\n\r\n[ t , s ] = c";
 
 #[test]
 fn names_comments_and_carriage_returns_make_no_difference(rt: HostRuntime) -> Result<(), Fail> {
-    let ended = answered(rt.alloc(), RENAMED.as_bytes(), b"t^3*s^5")?;
+    let ended = answered(rt.alloc(), RENAMED.as_bytes(), b"t^3 * s^5")?;
     assert_eq!(rt; ended.bytes.as_slice(), b"5 3 15\n".as_slice());
     assert_eq!(rt; ended.status, Status::Done);
     Ok(())
@@ -43,6 +72,54 @@ fn magnitudes_of_opposite_signs_are_summed(rt: HostRuntime) -> Result<(), Fail> 
         b"a1^7*a1^-7\na1^85070591730234615865843651857942052864*a1^-85070591730234615865843651857942052864";
     let ended = answered(rt.alloc(), CYCLIC.as_bytes(), queries)?;
     assert_eq!(rt; ended.bytes.as_slice(), b"0\nwide\n".as_slice());
+    assert_eq!(rt; ended.status, Status::Done);
+    Ok(())
+}
+
+/// The lines of `examples/heis.queries`, and the replies of `examples/heis.replies`.
+#[rattlefmt::skip]
+const EXAMPLES: [(&str, &str); 22] = [
+    ("# elements, and whether two are equal", ""),
+    ("a2^3*a1^5",                    "5 3 15\n"),
+    ("a1^5*a2^3",                    "5 3 0\n"),
+    ("a2*a1 = a1*a2",                "no\n"),
+    ("[a2,a1] = a3",                 "yes\n"),
+    ("",                             ""),
+    ("# powers, conjugates and commutators", ""),
+    ("(a1*a2)^-1",                   "-1 -1 1\n"),
+    ("(a1*a2)^10",                   "10 10 45\n"),
+    ("a1^a2",                        "1 0 -1\n"),
+    ("a2^a1",                        "0 1 1\n"),
+    ("[a2,a1]^0",                    "0 0 0\n"),
+    ("",                             ""),
+    ("# the x with a2 x = a1, and a1 a2^-1", ""),
+    ("solve a2 | a1",                "1 -1 -1\n"),
+    ("quotient a1 | a2",             "1 -1 0\n"),
+    ("",                             ""),
+    ("# a number past 128 bits, and lines with a fault", ""),
+    ("a2^85070591730234615865843651857942052864*a1^2", "wide\n"),
+    ("a1^-170141183460469231731687303715884105728", "number 4\n"),
+    ("a2*(a1",                       "syntax 7\n"),
+    ("b7",                           "unknown 1\n"),
+];
+
+/// The lines of the examples with their line feeds, and the replies in a row.
+fn examples(alloc: Global) -> Result<(String, String), AllocError> {
+    let mut queries = String::new(alloc);
+    let mut replies = String::new(alloc);
+    for (line, reply) in EXAMPLES {
+        queries.push_str(line)?;
+        queries.push_str("\n")?;
+        replies.push_str(reply)?;
+    }
+    Ok((queries, replies))
+}
+
+#[test]
+fn the_examples_hold(rt: HostRuntime) -> Result<(), Fail> {
+    let (queries, replies) = examples(rt.alloc())?;
+    let ended = answered(rt.alloc(), HEISENBERG.as_bytes(), queries.as_bytes())?;
+    assert_eq!(rt; ended.bytes.as_slice(), replies.as_bytes());
     assert_eq!(rt; ended.status, Status::Done);
     Ok(())
 }

@@ -9,4 +9,5 @@ pub returns-in-Ok-clause-ended : goal.returns-in-Ok-clause-ended
 returns-in-Ok-clause-ended g c = λ no. ended c.in-Ok.ensures.ok
 
 pub returns-in-Err-clause-ended : goal.returns-in-Err-clause-ended
-returns-in-Err-clause-ended g c = λ no. Ended-stopped _ _ _ _ _ c.in-Err.stop c.status_of.ensures.status c.in-Err.ensures.err
+returns-in-Err-clause-ended g c =
+    λ no. Ended-stopped _ _ _ _ _ c.in-Err.stop c.status_of.ensures.status c.in-Err.ensures.err

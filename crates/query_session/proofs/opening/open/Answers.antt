@@ -9,16 +9,21 @@ returns-in-None-clause-refused g c = HasRefused-any _ _ (λ file. inr (usage (sy
 pub returns-in-Ok-clause-refused : goal.returns-in-Ok-clause-refused
 returns-in-Ok-clause-refused g c =
     HasRefused-read _ c.in-Some.name.now c.deref.result.now (sym c.in-Some.ensures)
-    (subst (λ (ys : List ℕ). IfSome (g.H.Shelf.contents c.args.shelf.now c.in-Some.name.now) (λ xs. ys ≡ xs)) (sym c.deref.ensures.value) c.in-Ok.ensures.bytes)
+    (subst (λ (ys : List ℕ). IfSome (g.H.Shelf.contents c.args.shelf.now c.in-Some.name.now)
+    (λ xs. ys ≡ xs)) (sym c.deref.ensures.value) c.in-Ok.ensures.bytes)
     c.read_central.result c.read_central.ensures.refused
 
 pub returns-in-Err-Failed-clause-refused : goal.returns-in-Err-Failed-clause-refused
 returns-in-Err-Failed-clause-refused g c =
-    HasRefused-any _ _ (λ file. inr (shelf_failed c.in-Some.name.now (sym c.in-Some.ensures) (c.in-Err-Failed.ensures.causes.failed (cc))))
+    HasRefused-any _ _
+    (λ file. inr (shelf_failed c.in-Some.name.now (sym c.in-Some.ensures)
+    (c.in-Err-Failed.ensures.causes.failed (cc))))
 
 pub returns-in-Err-Long-clause-refused : goal.returns-in-Err-Long-clause-refused
 returns-in-Err-Long-clause-refused g c =
-    HasRefused-any _ _ (λ file. inr (shelf_long c.in-Some.name.now (sym c.in-Some.ensures) (c.in-Err-Long.ensures.causes.long (cc))))
+    HasRefused-any _ _
+    (λ file. inr (shelf_long c.in-Some.name.now (sym c.in-Some.ensures)
+    (c.in-Err-Long.ensures.causes.long (cc)) (c.in-Err-Long.ensures.told_long (cc))))
 
 pub returns-in-Err-Memory-clause-refused : goal.returns-in-Err-Memory-clause-refused
 returns-in-Err-Memory-clause-refused g c = HasRefused-any _ _ (λ file. inl refl)

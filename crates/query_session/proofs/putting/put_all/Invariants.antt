@@ -4,7 +4,9 @@ use Rattle.query_session.proofs.putting.put_all.Given as goal
 
 abbrev pub invariant-loop-at : goal.invariant-loop-at
 invariant-loop-at g l =
-    (l.at ≤ length l.bytes) × Appends (g.K.Sink.written l.initial.out) (g.K.Sink.written l.out) (take l.at l.bytes) × (g.K.Sink.faults l.initial.out ≤ g.K.Sink.faults l.out)
+    (l.at ≤ length l.bytes)
+    × Appends (g.K.Sink.written l.initial.out) (g.K.Sink.written l.out) (take l.at l.bytes)
+    × (g.K.Sink.faults l.initial.out ≤ g.K.Sink.faults l.out)
 
 abbrev pub decreases-loop-at : goal.decreases-loop-at
 decreases-loop-at g l = length l.bytes - l.at

@@ -6,4 +6,6 @@ use Rattle.query_session.proofs.Appending.{Appends-none}
 use Rattle.query_session.proofs.saying.say.Goals as goal
 
 pub returns-in_default-clause-err : goal.returns-in_default-clause-err
-returns-in_default-clause-err g c = short [] (as_line (text_of c.args.status)) refl (Appends-none (g.K.Sink.written c.args.out.now)) (inl refl)
+returns-in_default-clause-err g c =
+    short [] (as_line (text_of c.args.status)) refl (Appends-none (g.K.Sink.written c.args.out.now))
+    (inl refl)

@@ -1,7 +1,0 @@
-use Rattle.std.proofs.Common.{◌≡◌, ◌-◌, map}
-use Rattle.nil_word.specs.Exponents.{numbers}
-use Rattle.query_session.specs.Central.{row, first_bad}
-use Rattle.query_session.proofs.central.first_in_row.Given as goal
-
-abbrev pub invariant-loop-i : goal.invariant-loop-i
-invariant-loop-i l = first_bad l.pres (row l.j) ≡ first_bad l.pres (map (λ i. (i, l.j)) (numbers l.i (l.j - l.i)))

@@ -1,7 +1,0 @@
-use Rattle.std.proofs.Common.{◌≡◌, suc, ◌-◌, length, flat_map}
-use Rattle.nil_word.specs.Exponents.{numbers}
-use Rattle.query_session.specs.Central.{row, first_bad, not_central}
-use Rattle.query_session.proofs.central.first_outside.Given as goal
-
-abbrev pub invariant-loop-j : goal.invariant-loop-j
-invariant-loop-j l = not_central l.pres ≡ first_bad l.pres (flat_map row (numbers l.j (suc (length l.pres.names) - l.j)))

@@ -1,9 +1,0 @@
-use Rattle.std.proofs.Common.{suc, length, sym, ◌∙◌, ◌<◌, arith}
-use Rattle.query_session.specs.Central.{commute}
-use Rattle.query_session.proofs.Numbers.{list_all-next}
-use Rattle.query_session.proofs.central.is_central_generator.Goals as goal
-
-pub loop-l-preserved : goal.loop-l-preserved
-loop-l-preserved c =
-    let below : c.loop-l.l < suc (length c.args.pres.now.names) = omega (arith, c.loop-l-test.true, c.count-l-end.ensures.count) in
-    c.loop-l.invariant ∙ list_all-next (commute c.args.pres.now c.args.k) c.loop-l.l (suc (length c.args.pres.now.names)) below (sym c.do_commute.ensures ∙ c.if-not-do_commute.false)

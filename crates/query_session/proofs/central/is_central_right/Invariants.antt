@@ -1,6 +1,0 @@
-use Rattle.std.proofs.Common.{◌≡◌, drop}
-use Rattle.query_session.specs.Central.{are_central}
-use Rattle.query_session.proofs.central.is_central_right.Given as goal
-
-abbrev pub invariant-loop-syllable : goal.invariant-loop-syllable
-invariant-loop-syllable l = are_central l.pres l.right ≡ are_central l.pres (drop l.syllable-index l.right)
