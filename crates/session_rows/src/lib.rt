@@ -1,5 +1,5 @@
 //! Worked sessions over the forms in memory: the tests of `query_session`, in a crate of their own so
-//! that it is proved once. Nothing is promised here.
+//! that it is proved once. Promised here: that a session over forms that never fail ends well.
 #![tactic(auto)]
 
 #[cfg(test)]
@@ -14,3 +14,4 @@ mod own;
 mod refusals;
 #[cfg(test)]
 mod rows;
+pub mod sure;
