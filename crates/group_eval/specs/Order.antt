@@ -1,19 +1,21 @@
 -- The written order in which an element is evaluated: its vector, or the first place that passes
 -- 128 bits.
+--   Outcome                    a vector, or a place
 --   and_then r f               f of what r gives, or the place that r names
---   unless passes at r     the refusal at a place that passes, and r where it doesn't
---   is_wide e              the magnitude of e is above 2^127 - 1
---   difference t a b x k   b_k - f_k(a, x)
+--   unless passes at r         the refusal at a place that passes, and r where it doesn't
+--   is_wide e                  the magnitude of e is above 2^127 - 1
+--   difference t a b x k       b_k - f_k(a, x)
 --   solved_from t a b x k d    x with its d entries from k on: each is the difference with those before
---   solved t a b           the x with f(a, x) = b
---   inverted t a           a^-1
---   divided t a b          a b^-1
---   powered_in d t a e     a^e by halves, where d is at least e
---   powered t a e          a^e
---   commuted t u v         [u,v]
---   conjugated t u v       u^v
---   Writes result new r    a call wrote what r gives, or answered the place that r names
--- t table · a b u v x vectors · k generator · e exponent
+--   solved t a b               the x with f(a, x) = b
+--   inverted t a               a^-1
+--   divided t a b              a b^-1
+--   squared_and t a e h        h h, and once more a where e is odd
+--   powered_in d t a e         a^e by halves, where d is at least e
+--   powered t a e              a^e
+--   commuted t u v             [u,v]
+--   conjugated t u v           u^v
+--   Writes result new r        a call wrote what r gives, or answered the place that r names
+-- t table · a b h u v x vectors · k generator · e exponent
 use Rattle.std.specs.Prelude.{◌≡◌, ℕ, zero, suc, ◌/◌, ◌%◌, ◌^◌, ◌==◌, nat_le, Bool, ℤ, pos, negsuc, ◌-ℤ◌, unsigned_abs, List, Result, Ok, Err, MatchResult, if◌then◌else◌}
 use Rattle.nil_word.specs.Exponents.{entry}
 use Rattle.hall_law.specs.Table.{zeros}
