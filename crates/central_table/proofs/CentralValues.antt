@@ -2,9 +2,9 @@
 --   i < j k generators · x y vectors · low d numbers
 use Rattle.std.proofs.Common.{◌≡◌, ℕ, zero, suc, ◌+◌, ◌-◌, ◌<◌, ◌≤◌, Bool, cond, ltb, ℤ, pos, ◌+ℤ◌, ◌*ℤ◌, List, [], ◌∷◌, length, map, refl, ap, ◌∙◌, arith}
 use Rattle.std.proofs.lemmas.Bool.{lt-ltb, le-ltb}
-use Rattle.whole.specs.Sums.{sum_from}
-use Rattle.whole.proofs.Ring.{reads, ring_by}
-use Rattle.whole.proofs.Sums.{sum_from-same}
+use Rattle.integer.specs.Sums.{sum_from}
+use Rattle.integer.proofs.Ring.{reads, ring_by}
+use Rattle.integer.proofs.Sums.{sum_from-same}
 use Rattle.nil_word.specs.Exponents.{entry, numbers, count}
 use Rattle.hall_law.specs.Quadratic.{cross_term, quadratic_entry, quadratic}
 use Rattle.nil_pres.specs.Presented.{Presented, IsPresented, right_side}

@@ -2,8 +2,8 @@
 --   n how many generators · f a summand for each pair
 use Rattle.std.proofs.Common.{◌≡◌, ℕ, zero, suc, ◌+◌, ◌-◌, ◌≤◌, ℤ, pos, ◌+ℤ◌, refl, sym, ap, ◌∙◌, arith}
 use Rattle.std.proofs.lemmas.Int.{ints}
-use Rattle.whole.specs.Sums.{sum_from}
-use Rattle.whole.proofs.Sums.{sum_from-same, sum_from-add, sum_from-last}
+use Rattle.integer.specs.Sums.{sum_from}
+use Rattle.integer.proofs.Sums.{sum_from-same, sum_from-add, sum_from-last}
 
 -- for each j the pairs with lower i
 abbrev pub by_second : ℕ → (ℕ → ℕ → ℤ) → ℤ

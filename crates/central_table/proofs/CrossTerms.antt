@@ -7,10 +7,10 @@ use Rattle.std.proofs.lemmas.Grind.{flat_map-append}
 use Rattle.std.specs.Ordering.{int_eq}
 use Rattle.std.specs.Cmp.{signed_Decides}
 use Rattle.std.proofs.Math.IntN.{zero-*ℤ}
-use Rattle.whole.specs.Binomial.{choose}
-use Rattle.whole.specs.Sums.{sum_from}
-use Rattle.whole.proofs.Binomial.{absorb, choose_none}
-use Rattle.whole.proofs.Ring.{reads, ring_by}
+use Rattle.integer.specs.Binomial.{choose}
+use Rattle.integer.specs.Sums.{sum_from}
+use Rattle.integer.proofs.Binomial.{absorb, choose_none}
+use Rattle.integer.proofs.Ring.{reads, ring_by}
 use Rattle.nil_word.specs.Exponents.{numbers}
 use Rattle.nil_pres.specs.Presented.{Presented, right_side}
 use Rattle.binom_poly.specs.declared.part.Part.{Part}

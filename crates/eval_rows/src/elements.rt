@@ -114,7 +114,7 @@ fn a_wide_sum_is_named_and_out_stays(rt: HostRuntime) -> Result<(), Fail> {
     let mut a = Vector::zero(rt.alloc(), 3)?;
     a.set(1, 1 << 64);
     a.set(2, 1 << 64);
-    // x2*y1 passes, and nothing before it
+    // x2*y1 overflows, and nothing before it
     let (at, out) = refused(rt.alloc(), Call::Multiply, &a, &a)?;
     assert_eq!(rt; at, WideAt::Sum(3));
     assert_eq!(rt; out.entries(), [7, 8, 9].as_slice());

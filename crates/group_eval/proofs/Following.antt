@@ -19,11 +19,11 @@ use Rattle.hall_table.specs.declared.wide_at.WideAt.TheVariants.{RowX, RowY, Sum
 use Rattle.hall_table.specs.Shape.{y_of}
 use Rattle.hall_table.specs.Tabled.{Tabled, IsTabled, last_of, poly_at}
 use Rattle.hall_table.specs.Width.{width_for, HasRows}
-use Rattle.hall_table.specs.Order.{first_from, generators, named, row_passes, sum_passes, x_passes, sum_at_passes}
+use Rattle.hall_table.specs.Order.{first_from, generators, named, row_overflows, sum_overflows, x_overflows, sum_at_overflows}
 use Rattle.hall_table.proofs.Multiplied.{Hold}
 use Rattle.hall_table.proofs.Putting.{HasRows-with_value, value-same, value-other}
 use Rattle.group_eval.specs.Order.{Outcome, unless, is_wide, difference, solved_from, solved}
-use Rattle.group_eval.proofs.Holding.{difference-rows, sum_passes-rows}
+use Rattle.group_eval.proofs.Holding.{difference-rows, sum_overflows-rows}
 
 abbrev pub begun_from : Tabled → List ℤ → List ℤ → Outcome
 begun_from t a b = solved_from t a b (zeros (last_of t)) t.level (generators t)
@@ -48,42 +48,42 @@ unless_third : (p q s : Bool) (f at : WideAt) (r : Outcome) → p ≡ false → 
     → unless p f (unless q f (unless s at r)) ≡ Err at
 unless_third p q s f at r a b c = cc
 
-abbrev row_at_passes : Tabled → List ℤ → List ℤ → List ℤ → ℕ → Bool
-row_at_passes t a b x k = row_passes (difference t a b x k) (width_for t (y_of k))
+abbrev row_at_overflows : Tabled → List ℤ → List ℤ → List ℤ → ℕ → Bool
+row_at_overflows t a b x k = row_overflows (difference t a b x k) (width_for t (y_of k))
 
 abbrev after : Tabled → List ℤ → List ℤ → List ℤ → ℕ → Outcome
 after t a b x k = solved_from t a b (put x k (difference t a b x k)) (suc k) (last_of t - k)
 
 unrolled : (t : Tabled) (a b x : List ℤ) (k : ℕ) → k ≤ last_of t
     → solved_from t a b x k (last_of t + 1 - k)
-    ≡ unless (sum_at_passes t a x k) (Sum k)
+    ≡ unless (sum_at_overflows t a x k) (Sum k)
     (unless (is_wide (difference t a b x k)) (Sum k)
-    (unless (row_at_passes t a b x k) (RowY k) (after t a b x k)))
+    (unless (row_at_overflows t a b x k) (RowY k) (after t a b x k)))
 unrolled t a b x k h =
     let e : last_of t + 1 - k ≡ suc (last_of t - k) = omega arith in ap (solved_from t a b x k) e
 
 -- the rows of all x fit
 abbrev pub FitsLeft : Tabled → List ℤ → Type 0
-FitsLeft t a = first_from t.level (generators t) (x_passes t a) ≡ None
+FitsLeft t a = first_from t.level (generators t) (x_overflows t a) ≡ None
 
 begun : (t : Tabled) (a b : List ℤ) → FitsLeft t a → solved t a b ≡ begun_from t a b
 begun t a b h = ap (λ (f : Option ℕ). named RowX f (begun_from t a b)) h
 
--- the sum or the difference passes
+-- the sum or the difference overflows
 pub difference_named : {t : Tabled} {a b x : List ℤ} {rows : List Reading} {k : ℕ}
     → SolvedSoFar t a b x rows k → IsTabled t → t.level ≤ k → k ≤ last_of t → FitsLeft t a
     → (at : WideAt) (y : ℤ) → at ≡ Sum k → y ≡ entry b k
-    → (sum_passes (value_at rows) (poly_at t k)
+    → (sum_overflows (value_at rows) (poly_at t k)
     || is_wide (y -ℤ value_of (value_at rows) (poly_at t k))) ≡ true
     → solved t a b ≡ Err at
 difference_named {t} {a} {b} {x} {rows} {k} s h low high f at y g e p =
     let v = value_of (value_at rows) (poly_at t k) in
     begun t a b f ∙ s.rest ∙ unrolled t a b x k high
-    ∙ unless_either (sum_at_passes t a x k) (is_wide (difference t a b x k))
-    (row_at_passes t a b x k) (Sum k) (RowY k) (after t a b x k)
+    ∙ unless_either (sum_at_overflows t a x k) (is_wide (difference t a b x k))
+    (row_at_overflows t a b x k) (Sum k) (RowY k) (after t a b x k)
     (ap (λ (c : Bool). c || is_wide (difference t a b x k))
-    (sym (sum_passes-rows t a x rows k h s.holds low high))
-    ∙ ap (λ z. sum_passes (value_at rows) (poly_at t k) || is_wide z)
+    (sym (sum_overflows-rows t a x rows k h s.holds low high))
+    ∙ ap (λ z. sum_overflows (value_at rows) (poly_at t k) || is_wide z)
     (sym (ap (λ z. z -ℤ v) e ∙ difference-rows t a b x rows k h s.holds low high))
     ∙ p)
     ∙ ap (λ w. Err w) (sym g)
@@ -91,7 +91,7 @@ difference_named {t} {a} {b} {x} {rows} {k} s h low high f at y g e p =
 -- ---- the sum and the difference fit
 pub record IsNext (t : Tabled) (a b x : List ℤ) (k : ℕ) (e : ℤ) : Type 0 where
   pub is : e ≡ difference t a b x k
-  pub fits : sum_at_passes t a x k ≡ false
+  pub fits : sum_at_overflows t a x k ≡ false
   pub narrow : is_wide (difference t a b x k) ≡ false
 
 not_wide : (n : ℕ) → n < 2 ^ 127 → nat_le (2 ^ 127) n ≡ false
@@ -99,7 +99,7 @@ not_wide n h = grind (arith, nat_tests)
 
 pub is_next : {t : Tabled} {a b x : List ℤ} {rows : List Reading} {k : ℕ}
     → SolvedSoFar t a b x rows k → IsTabled t → t.level ≤ k → k ≤ last_of t
-    → (y d e : ℤ) → y ≡ entry b k → sum_passes (value_at rows) (poly_at t k) ≡ false
+    → (y d e : ℤ) → y ≡ entry b k → sum_overflows (value_at rows) (poly_at t k) ≡ false
     → d ≡ y -ℤ value_of (value_at rows) (poly_at t k) → unsigned_abs d < 2 ^ 127 → e ≡ d
     → IsNext t a b x k e
 is_next {t} {a} {b} {x} {rows} {k} s h low high y d e f p g w i =
@@ -108,7 +108,7 @@ is_next {t} {a} {b} {x} {rows} {k} s h low high y d e f p g w i =
     ∙ difference-rows t a b x rows k h s.holds low high in
     record {
       is = i ∙ is;
-      fits = sym (sum_passes-rows t a x rows k h s.holds low high) ∙ p;
+      fits = sym (sum_overflows-rows t a x rows k h s.holds low high) ∙ p;
       narrow =
           not_wide (unsigned_abs (difference t a b x k))
           (subst (λ z. unsigned_abs z < 2 ^ 127) is w);
@@ -116,13 +116,13 @@ is_next {t} {a} {b} {x} {rows} {k} s h low high y d e f p g w i =
 
 pub row_named : {t : Tabled} {a b x : List ℤ} {rows : List Reading} {k : ℕ} {e : ℤ}
     → SolvedSoFar t a b x rows k → IsNext t a b x k e → k ≤ last_of t → FitsLeft t a
-    → (at : WideAt) → at ≡ RowY k → row_passes e (width_for t (y_of k)) ≡ true
+    → (at : WideAt) → at ≡ RowY k → row_overflows e (width_for t (y_of k)) ≡ true
     → solved t a b ≡ Err at
 row_named {t} {a} {b} {x} {rows} {k} {e} s n high f at g p =
     begun t a b f ∙ s.rest ∙ unrolled t a b x k high
-    ∙ unless_third (sum_at_passes t a x k) (is_wide (difference t a b x k))
-    (row_at_passes t a b x k) (Sum k) (RowY k) (after t a b x k) n.fits n.narrow
-    (ap (λ z. row_passes z (width_for t (y_of k))) (sym n.is) ∙ p)
+    ∙ unless_third (sum_at_overflows t a x k) (is_wide (difference t a b x k))
+    (row_at_overflows t a b x k) (Sum k) (RowY k) (after t a b x k) n.fits n.narrow
+    (ap (λ z. row_overflows z (width_for t (y_of k))) (sym n.is) ∙ p)
     ∙ ap (λ w. Err w) (sym g)
 
 -- ---- the next entry is put
@@ -151,7 +151,7 @@ holds_more t a x new rows later k e h low high size w r f g =
 
 pub solved_more : {t : Tabled} {a b x : List ℤ} {rows : List Reading} {k : ℕ} {e : ℤ}
     → SolvedSoFar t a b x rows k → IsNext t a b x k e → IsTabled t → t.level ≤ k → k ≤ last_of t
-    → 0 < width_at rows (y_of k) → row_passes e (width_for t (y_of k)) ≡ false
+    → 0 < width_at rows (y_of k) → row_overflows e (width_for t (y_of k)) ≡ false
     → (new : List ℤ) (later : List Reading) → new ≡ put x k e → later ≡ with_value rows (y_of k) e
     → SolvedSoFar t a b new later (k + 1)
 solved_more {t} {a} {b} {x} {rows} {k} {e} s n h low high w p new later f g =
@@ -163,9 +163,9 @@ solved_more {t} {a} {b} {x} {rows} {k} {e} s n h low high w p new later f g =
       holds = holds_more t a x new rows later k e h low high s.size w s.holds f g;
       rest =
           s.rest ∙ unrolled t a b x k high
-          ∙ unless_none (sum_at_passes t a x k) (is_wide (difference t a b x k))
-          (row_at_passes t a b x k) (Sum k) (Sum k) (RowY k) (after t a b x k) n.fits n.narrow
-          (ap (λ z. row_passes z (width_for t (y_of k))) (sym n.is) ∙ p)
+          ∙ unless_none (sum_at_overflows t a x k) (is_wide (difference t a b x k))
+          (row_at_overflows t a b x k) (Sum k) (Sum k) (RowY k) (after t a b x k) n.fits n.narrow
+          (ap (λ z. row_overflows z (width_for t (y_of k))) (sym n.is) ∙ p)
           ∙ ap (λ z. solved_from t a b (put x k z) (suc k) (last_of t - k)) (sym n.is)
           ∙ ap (λ v. solved_from t a b v (suc k) (last_of t - k)) (sym f)
           ∙ ap (λ (m : ℕ). solved_from t a b new m (last_of t - k)) next

@@ -15,7 +15,7 @@ use Rattle.binom_poly.specs.Readings.{value_at}
 use Rattle.hall_table.specs.Shape.{is_lower, AreLower}
 use Rattle.hall_table.specs.Tabled.{Tabled, IsTabled, last_of, poly_at}
 use Rattle.hall_table.specs.Values.{point_of}
-use Rattle.hall_table.specs.Order.{sum_passes, sum_at_passes}
+use Rattle.hall_table.specs.Order.{sum_overflows, sum_at_overflows}
 use Rattle.hall_table.proofs.Covering.{poly_lower}
 use Rattle.hall_table.proofs.Multiplied.{Hold}
 use Rattle.hall_table.proofs.Putting.{Agree, value-agree, magnitude-agree}
@@ -70,10 +70,10 @@ difference-rows t a b x rows k h r low high =
     (value-agree (value_at rows) (point_of a x) (poly_at t k)
     (points_agree t a x rows k h r low high))
 
-pub sum_passes-rows : (t : Tabled) (a x : List ℤ) (rows : List Reading) (k : ℕ) → IsTabled t
+pub sum_overflows-rows : (t : Tabled) (a x : List ℤ) (rows : List Reading) (k : ℕ) → IsTabled t
     → Hold t a x rows → t.level ≤ k → k ≤ last_of t
-    → sum_passes (value_at rows) (poly_at t k) ≡ sum_at_passes t a x k
-sum_passes-rows t a x rows k h r low high =
+    → sum_overflows (value_at rows) (poly_at t k) ≡ sum_at_overflows t a x k
+sum_overflows-rows t a x rows k h r low high =
     ap (λ (n : ℕ). nat_le (2 ^ 127) n)
     (magnitude-agree (value_at rows) (point_of a x) (poly_at t k)
     (points_agree t a x rows k h r low high))

@@ -16,7 +16,7 @@ use Rattle.hall_table.specs.Shape.{y_of}
 use Rattle.hall_table.specs.Tabled.{Tabled, last_of, poly_at}
 use Rattle.hall_table.specs.Values.{point_of, values}
 use Rattle.hall_table.specs.Width.{width_for}
-use Rattle.hall_table.specs.Order.{first_from, generators, multiplied, named, row_passes, sum_at_passes, x_passes, y_passes}
+use Rattle.hall_table.specs.Order.{first_from, generators, multiplied, named, row_overflows, sum_at_overflows, x_overflows, y_overflows}
 use Rattle.hall_table.proofs.Putting.{entry_within}
 use Rattle.group_eval.specs.Order.{Outcome, and_then, unless, is_wide, difference, solved_from, solved, inverted, divided, squared_and, powered_in, powered, commuted, conjugated}
 use Rattle.group_eval.specs.Right.{AreSmall}
@@ -85,10 +85,10 @@ all_numbers g low (suc d) h =
     All-cons IsSmall (g low) (map g (numbers (suc low) d)) (h low (omega arith) (omega arith))
     (all_numbers g (suc low) d (λ k l m. h k (omega arith) (omega arith)))
 
-none_passes : (p : ℕ → Bool) (low d : ℕ) → first_from low d p ≡ None → (k : ℕ) → low ≤ k
+none_overflows : (p : ℕ → Bool) (low d : ℕ) → first_from low d p ≡ None → (k : ℕ) → low ≤ k
     → k < low + d → p k ≡ false
-none_passes p low zero h k l m = absurd (omega arith)
-none_passes p low (suc d) h k l m =
+none_overflows p low zero h k l m = absurd (omega arith)
+none_overflows p low (suc d) h k l m =
     elim (cases_Bool (p low)) [
       | inl y ↦
           let f : Some low ≡ None =
@@ -99,21 +99,21 @@ none_passes p low (suc d) h k l m =
           sym (ap (λ (b : Bool). cond b (Some low) (first_from (suc low) d p)) n) ∙ h in
           (elim (eq_or_less low k l) [
             | inl e ↦ subst (λ i. p i ≡ false) e n
-            | inr s ↦ none_passes p (suc low) d f k (omega arith) (omega arith)
+            | inr s ↦ none_overflows p (suc low) d f k (omega arith) (omega arith)
           ])
     ]
   where
     eq_or_less : (i j : ℕ) → i ≤ j → (i ≡ j) ⊎ (i < j)
     eq_or_less i j l = grind arith
 
-value_small : (t : Tabled) (a b : List ℤ) (k : ℕ) → sum_at_passes t a b k ≡ false
+value_small : (t : Tabled) (a b : List ℤ) (k : ℕ) → sum_at_overflows t a b k ≡ false
     → IsSmall (value_of (point_of a b) (poly_at t k))
 value_small t a b k h =
     entry_within (point_of a b) (poly_at t k) (value_of (point_of a b) (poly_at t k))
     (value_of (point_of a b) (poly_at t k)) refl refl (leb-false (2 ^ 127) _ h)
 
 values_small : (t : Tabled) (a b : List ℤ)
-    → first_from t.level (generators t) (sum_at_passes t a b) ≡ None → AreSmall (values t a b)
+    → first_from t.level (generators t) (sum_at_overflows t a b) ≡ None → AreSmall (values t a b)
 values_small t a b h =
     all_numbers (λ k. cond (ltb k t.level) (pos 0) (value_of (point_of a b) (poly_at t k))) 1
     (last_of t)
@@ -125,11 +125,11 @@ values_small t a b h =
           subst (λ (i : Bool). IsSmall (cond i (pos 0) (value_of (point_of a b) (poly_at t k))))
           (sym c)
           (value_small t a b k
-          (none_passes (sum_at_passes t a b) t.level (generators t) h k low (omega arith)))
+          (none_overflows (sum_at_overflows t a b) t.level (generators t) h k low (omega arith)))
     ]))
 
 values_narrow : (t : Tabled) (a b : List ℤ)
-    → first_from t.level (generators t) (sum_at_passes t a b) ≡ None → IsNarrow t (values t a b)
+    → first_from t.level (generators t) (sum_at_overflows t a b) ≡ None → IsNarrow t (values t a b)
 values_narrow t a b h = record {
   entries = length-map_numbers (last_of t)
       (λ k. cond (ltb k t.level) (pos 0) (value_of (point_of a b) (poly_at t k)));
@@ -139,9 +139,9 @@ values_narrow t a b h = record {
 -- ---- elements
 pub narrow_multiplied : (t : Tabled) (a b : List ℤ) → Narrow t (multiplied t a b)
 narrow_multiplied t a b =
-    narrow_named t RowX (first_from t.level (generators t) (x_passes t a)) _
-    (λ _. narrow_named t RowY (first_from t.level (generators t) (y_passes t b)) _
-    (λ _. narrow_named t Sum (first_from t.level (generators t) (sum_at_passes t a b)) _
+    narrow_named t RowX (first_from t.level (generators t) (x_overflows t a)) _
+    (λ _. narrow_named t RowY (first_from t.level (generators t) (y_overflows t b)) _
+    (λ _. narrow_named t Sum (first_from t.level (generators t) (sum_at_overflows t a b)) _
     (λ h. narrow_ok t (values t a b) (values_narrow t a b h))))
 
 narrow_solved_from : (t : Tabled) (a b : List ℤ) (d : ℕ) (x : List ℤ) (k : ℕ) → IsNarrow t x
@@ -149,15 +149,15 @@ narrow_solved_from : (t : Tabled) (a b : List ℤ) (d : ℕ) (x : List ℤ) (k :
 narrow_solved_from t a b zero x k h = narrow_ok t x h
 narrow_solved_from t a b (suc d) x k h =
     let e = difference t a b x k in
-    narrow_unless t (sum_at_passes t a x k) (Sum k) _
+    narrow_unless t (sum_at_overflows t a x k) (Sum k) _
     (λ _. narrow_unless t (is_wide e) (Sum k) _
-    (λ fits. narrow_unless t (row_passes e (width_for t (y_of k))) (RowY k) _
+    (λ fits. narrow_unless t (row_overflows e (width_for t (y_of k))) (RowY k) _
     (λ _. narrow_solved_from t a b d (put x k e) (suc k)
     (IsNarrow-put t x k e (leb-false (2 ^ 127) (unsigned_abs e) fits) h))))
 
 pub narrow_solved : (t : Tabled) (a b : List ℤ) → Narrow t (solved t a b)
 narrow_solved t a b =
-    narrow_named t RowX (first_from t.level (generators t) (x_passes t a)) _
+    narrow_named t RowX (first_from t.level (generators t) (x_overflows t a)) _
     (λ _. narrow_solved_from t a b (generators t) (zeros (last_of t)) t.level (IsNarrow-zeros t))
 
 pub narrow_divided : (t : Tabled) (a b : List ℤ) → Narrow t (divided t a b)

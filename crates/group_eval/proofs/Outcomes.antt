@@ -6,7 +6,7 @@ use Rattle.hall_table.specs.declared.wide_at.WideAt.{WideAt}
 use Rattle.hall_table.specs.declared.wide_at.WideAt.TheVariants.{RowX, RowY, Sum}
 use Rattle.hall_table.specs.Tabled.{Tabled}
 use Rattle.hall_table.specs.Values.{values}
-use Rattle.hall_table.specs.Order.{first_from, generators, named, multiplied, x_passes, y_passes, sum_at_passes}
+use Rattle.hall_table.specs.Order.{first_from, generators, named, multiplied, x_overflows, y_overflows, sum_at_overflows}
 use Rattle.group_eval.specs.Order.{Outcome, and_then, unless}
 
 pub named_ok : (place : ℕ → WideAt) (found : Option ℕ) (r : Outcome) (x : List ℤ)
@@ -14,7 +14,7 @@ pub named_ok : (place : ℕ → WideAt) (found : Option ℕ) (r : Outcome) (x : 
 named_ok place None r x h = h
 named_ok place (Some k) r x h = cc
 
-pub unless_ok : (passes : Bool) (at : WideAt) (r : Outcome) (x : List ℤ) → unless passes at r ≡ Ok x
+pub unless_ok : (overflows : Bool) (at : WideAt) (r : Outcome) (x : List ℤ) → unless overflows at r ≡ Ok x
     → r ≡ Ok x
 unless_ok true at r x h = cc
 unless_ok false at r x h = h
@@ -33,11 +33,11 @@ if_ok false r s x h = inr (refl, h)
 
 pub multiplied_ok : (t : Tabled) (a b x : List ℤ) → multiplied t a b ≡ Ok x → values t a b ≡ x
 multiplied_ok t a b x h =
-    let sums : Outcome = named Sum (first_from t.level (generators t) (sum_at_passes t a b))
+    let sums : Outcome = named Sum (first_from t.level (generators t) (sum_at_overflows t a b))
     (Ok (values t a b)) in
-    let rows : Outcome = named RowY (first_from t.level (generators t) (y_passes t b)) sums in
+    let rows : Outcome = named RowY (first_from t.level (generators t) (y_overflows t b)) sums in
     let made : Ok (values t a b) ≡ Ok x =
-    named_ok Sum (first_from t.level (generators t) (sum_at_passes t a b)) (Ok (values t a b)) x
-    (named_ok RowY (first_from t.level (generators t) (y_passes t b)) sums x
-    (named_ok RowX (first_from t.level (generators t) (x_passes t a)) rows x h)) in
+    named_ok Sum (first_from t.level (generators t) (sum_at_overflows t a b)) (Ok (values t a b)) x
+    (named_ok RowY (first_from t.level (generators t) (y_overflows t b)) sums x
+    (named_ok RowX (first_from t.level (generators t) (x_overflows t a)) rows x h)) in
     cc

@@ -22,7 +22,7 @@ use Rattle.hall_table.specs.Shape.{y_of}
 use Rattle.hall_table.specs.Tabled.{Tabled, IsTabled, last_of, poly_at}
 use Rattle.hall_table.specs.Values.{point_of, values}
 use Rattle.hall_table.specs.Width.{width_for}
-use Rattle.hall_table.specs.Order.{first_from, generators, row_passes, sum_at_passes, x_passes}
+use Rattle.hall_table.specs.Order.{first_from, generators, row_overflows, sum_at_overflows, x_overflows}
 use Rattle.group_eval.specs.Order.{unless, is_wide, difference, solved_from, solved}
 use Rattle.group_eval.proofs.Outcomes.{named_ok, unless_ok}
 
@@ -104,13 +104,13 @@ module _ (t : Tabled) (tabled : IsTabled t) (shaped : IsShaped (last_of t) t.lev
   solved_from_solves (suc d) k x z low whole h is =
       let e = difference t a b x k in
       let next = solved_from t a b (put x k e) (suc k) d in
-      let third = unless (row_passes e (width_for t (y_of k))) (RowY k) next in
+      let third = unless (row_overflows e (width_for t (y_of k))) (RowY k) next in
       let second = unless (is_wide e) (Sum k) third in
       solved_from_solves d (suc k) (with_difference x k) z (omega arith) (omega arith)
       (difference_solves x k low (omega arith) h)
-      (unless_ok (row_passes e (width_for t (y_of k))) (RowY k) next z
+      (unless_ok (row_overflows e (width_for t (y_of k))) (RowY k) next z
       (unless_ok (is_wide e) (Sum k) third z
-      (unless_ok (sum_at_passes t a x k) (Sum k) second z is)))
+      (unless_ok (sum_at_overflows t a x k) (Sum k) second z is)))
 
   start : SolvesBelow (zeros (last_of t)) t.level
   start = record {
@@ -137,6 +137,6 @@ module _ (t : Tabled) (tabled : IsTabled t) (shaped : IsShaped (last_of t) t.lev
       let h : SolvesBelow x (last_of t + 1) =
       solved_from_solves (generators t) t.level (zeros (last_of t)) x (omega arith) (omega arith)
       start
-      (named_ok RowX (first_from t.level (generators t) (x_passes t a))
+      (named_ok RowX (first_from t.level (generators t) (x_overflows t a))
       (solved_from t a b (zeros (last_of t)) t.level (generators t)) x is) in
       (h.vector, whole_solves x h)

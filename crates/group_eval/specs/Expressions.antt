@@ -4,7 +4,7 @@
 --   joined_all t rs        the first item, and then the others so; 0 where there is none
 --   powered_of t g r e     the power of a generator g, or of what r gives where there is none
 --   evaluated_level t      an expression by what its parts give
---   evaluated t e          the vector of an expression, or the first place that passes 128 bits
+--   evaluated t e          the vector of an expression, or the first place that overflows 128 bits
 --   IsFrom level e         each generator of the expression is at least the level
 -- t table · e expression, or exponent in powered_of · a vector · r rs outcomes
 use Rattle.std.specs.Prelude.{◌≡◌, ℕ, nat_le, Bool, true, ◌&&◌, ℤ, List, [], ◌∷◌, map, pos, Ok, Option, Some, None}

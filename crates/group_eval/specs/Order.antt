@@ -1,8 +1,8 @@
--- The written order in which an element is evaluated: its vector, or the first place that passes
+-- The written order in which an element is evaluated: its vector, or the first place that overflows
 -- 128 bits.
 --   Outcome                    a vector, or a place
 --   and_then r f               f of what r gives, or the place that r names
---   unless passes at r         the refusal at a place that passes, and r where it doesn't
+--   unless overflows at r         the refusal at a place that overflows, and r where it doesn't
 --   is_wide e                  the magnitude of e is above 2^127 - 1
 --   difference t a b x k       b_k - f_k(a, x)
 --   solved_from t a b x k d    x with its d entries from k on: each is the difference with those before
@@ -27,7 +27,7 @@ use Rattle.hall_table.specs.Shape.{y_of}
 use Rattle.hall_table.specs.Tabled.{Tabled, last_of, poly_at}
 use Rattle.hall_table.specs.Values.{point_of}
 use Rattle.hall_table.specs.Width.{width_for}
-use Rattle.hall_table.specs.Order.{first_from, generators, multiplied, named, row_passes, sum_at_passes, x_passes}
+use Rattle.hall_table.specs.Order.{first_from, generators, multiplied, named, row_overflows, sum_at_overflows, x_overflows}
 
 abbrev pub Outcome : Type 0
 Outcome = Result (List ℤ) WideAt
@@ -37,7 +37,7 @@ and_then (Ok a) f = f a
 and_then (Err at) f = Err at
 
 abbrev pub unless : Bool → WideAt → Outcome → Outcome
-unless passes at r = if passes then Err at else r
+unless overflows at r = if overflows then Err at else r
 
 abbrev pub is_wide : ℤ → Bool
 is_wide e = nat_le (2 ^ 127) (unsigned_abs e)
@@ -50,14 +50,14 @@ abbrev pub solved_from : Tabled → List ℤ → List ℤ → List ℤ → ℕ �
 solved_from t a b x k zero = Ok x
 solved_from t a b x k (suc d) =
     let e = difference t a b x k in
-    unless (sum_at_passes t a x k) (Sum k)
+    unless (sum_at_overflows t a x k) (Sum k)
     (unless (is_wide e) (Sum k)
-    (unless (row_passes e (width_for t (y_of k))) (RowY k)
+    (unless (row_overflows e (width_for t (y_of k))) (RowY k)
     (solved_from t a b (put x k e) (suc k) d)))
 
 abbrev pub solved : Tabled → List ℤ → List ℤ → Outcome
 solved t a b =
-    named RowX (first_from t.level (generators t) (x_passes t a))
+    named RowX (first_from t.level (generators t) (x_overflows t a))
     (solved_from t a b (zeros (last_of t)) t.level (generators t))
 
 abbrev pub inverted : Tabled → List ℤ → Outcome

@@ -4,7 +4,7 @@
 --   compared r s           the same of two outcomes, and Wide where one is none
 --   of_both r s f          the vector that f gives of both outcomes, or Wide
 --   answered t q           the reply to a query
---   IsWide t q             a value on the way to the reply passes 128 bits
+--   IsWide t q             a value on the way to the reply overflows 128 bits
 -- t table · q query · a b vectors · r s outcomes
 use Rattle.std.specs.Prelude.{◌≡◌, ℤ, List, Ok, Err, if◌then◌else◌}
 use Rattle.std.specs.Ordering.{int_eq}

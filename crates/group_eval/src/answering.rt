@@ -51,7 +51,7 @@ pub fn answer(
     }
 }
 
-/// The reply to a query, unless a value passes 128 bits.
+/// The reply to a query, unless a value overflows 128 bits.
 fn evaluate(
     alloc: Global,
     ws: &mut Workspace,

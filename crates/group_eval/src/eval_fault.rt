@@ -7,7 +7,7 @@ use thiserror::Error;
 /// Why an expression isn't evaluated.
 #[derive(Clone, Copy, PartialEq, Eq, Debug, Drop, Error)]
 pub enum EvalFault {
-    /// A value passed 128 bits, with the first place.
+    /// A value overflowed 128 bits, with the first place.
     #[error("{0}")]
     Wide(WideAt),
     #[error("want of memory")]

@@ -10,7 +10,7 @@ use hall_law::laws::{elements as vectors, uniqueness};
 use hall_table::laws::shaped;
 use nil_pres::laws::relations;
 
-/// By a table that multiplies in its presentation, where no value passes 128 bits, the written order
+/// By a table that multiplies in its presentation, where no value overflows 128 bits, the written order
 /// of an element gives the vector of that element.
 pub fn elements()
     ensures products { OfChecked MultipliedIs }

@@ -6,7 +6,7 @@ ghost use Rattle.nil_word.specs.Exponents.{entry};
 ghost use Rattle.binom_poly.specs.Polynomial.{value_of};
 ghost use Rattle.binom_poly.specs.Readings.{value_at};
 ghost use Rattle.hall_table.specs.Multiplies.{IsChecked};
-ghost use Rattle.hall_table.specs.Order.{first_from, generators, sum_passes, x_passes};
+ghost use Rattle.hall_table.specs.Order.{first_from, generators, sum_overflows, x_overflows};
 ghost use Rattle.hall_table.specs.Shape.{y_of};
 ghost use Rattle.hall_table.specs.Tabled.{IsTabled, last_of, poly_at};
 ghost use Rattle.hall_table.specs.Width.{HasRows};
@@ -80,9 +80,9 @@ fn put_x(table: &Table, rows: &mut Rows, a: &Vector) -> Result<(), WideAt>
     requires length { length a.now ≡ last_of table.now }
     requires rows { HasRows table.now rows.old }
     ensures first { MatchResult result
-        (λ _. first_from table.now.level (generators table.now) (x_passes table.now a.now) ≡ None)
+        (λ _. first_from table.now.level (generators table.now) (x_overflows table.now a.now) ≡ None)
         (λ at. option_map WideAt.RowX
-        (first_from table.now.level (generators table.now) (x_passes table.now a.now)) ≡ Some at) }
+        (first_from table.now.level (generators table.now) (x_overflows table.now a.now)) ≡ Some at) }
     ensures put { OnOk result ((k : ℕ) → table.now.level ≤ k → k ≤ last_of table.now
         → value_at rows.new k ≡ entry a.now k) }
     ensures rows { HasRows table.now rows.new }
@@ -116,8 +116,8 @@ fn difference_at(table: &Table, rows: &Rows, k: u32, b: i128) -> Result<i128, Wi
         (λ e. e ≡ b -ℤ value_of (value_at rows.now) (poly_at table.now k)) }
     ensures within { IfOk result (λ e. unsigned_abs e < 2 ^ 127) }
     ensures wide { MatchResult result
-        (λ _. sum_passes (value_at rows.now) (poly_at table.now k) ≡ false)
-        (λ at. (at ≡ WideAt.Sum k) × ((sum_passes (value_at rows.now) (poly_at table.now k)
+        (λ _. sum_overflows (value_at rows.now) (poly_at table.now k) ≡ false)
+        (λ at. (at ≡ WideAt.Sum k) × ((sum_overflows (value_at rows.now) (poly_at table.now k)
         || is_wide (b -ℤ value_of (value_at rows.now) (poly_at table.now k))) ≡ true)) }
 {
     let value = table.entry(rows, k)?;

@@ -7,8 +7,8 @@ use Rattle.std.proofs.lemmas.List.{get_or-map, length-map, get_or-drop, take_all
 use Rattle.std.proofs.lemmas.List.Elements.{All-head, All-tail}
 use lib.IntN.{◌+ℤ◌, ◌*ℤ◌, zero-*ℤ, *ℤ-zero}
 use borrow.Author.Differences.{ints}
-use Rattle.whole.specs.Binomial.{choose}
-use Rattle.whole.proofs.Binomial.{choose_past}
+use Rattle.integer.specs.Binomial.{choose}
+use Rattle.integer.proofs.Binomial.{choose_past}
 use Rattle.binom_poly.specs.declared.part.Part.{Part}
 use Rattle.binom_poly.specs.declared.term.Term.{Term}
 use Rattle.binom_poly.specs.Monomial.{IsMonomialAbove}

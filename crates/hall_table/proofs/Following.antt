@@ -13,25 +13,25 @@ use Rattle.binom_poly.specs.Readings.{value_at, width_at, with_value}
 use Rattle.hall_table.specs.declared.wide_at.WideAt.{WideAt}
 use Rattle.hall_table.specs.Tabled.{Tabled, IsTabled, last_of, poly_at}
 use Rattle.hall_table.specs.Width.{width_for, HasRows}
-use Rattle.hall_table.specs.Order.{first_from, generators, row_passes, sum_passes}
+use Rattle.hall_table.specs.Order.{first_from, generators, row_overflows, sum_overflows}
 use Rattle.hall_table.proofs.Orders.{first_found, first_none}
 use Rattle.hall_table.proofs.Putting.{HasRows-with_value, value-same, value-other}
 
 -- ---- rows
 pub record PutSoFar (t : Tabled) (place : ℕ → ℕ) (v : List ℤ) (rows : List Reading) (k : ℕ) : Type 0 where
   pub placed : HasRows t rows
-  pub fits : (j : ℕ) → j < k → t.level ≤ j → row_passes (entry v j) (width_for t (place j)) ≡ false
+  pub fits : (j : ℕ) → j < k → t.level ≤ j → row_overflows (entry v j) (width_for t (place j)) ≡ false
   pub put : (j : ℕ) → j < k → t.level ≤ j → value_at rows (place j) ≡ entry v j
 
 pub put_more : (t : Tabled) (place : ℕ → ℕ) (v : List ℤ) (rows new : List Reading) (k : ℕ) (x y : ℤ)
     → ((j : ℕ) → j < k → place j ≢ place k) → 0 < width_at rows (place k) → y ≡ entry v k → x ≡ y
-    → PutSoFar t place v rows k → new ≡ with_value rows (place k) x → row_passes x (width_for t (place k)) ≡ false
+    → PutSoFar t place v rows k → new ≡ with_value rows (place k) x → row_overflows x (width_for t (place k)) ≡ false
     → PutSoFar t place v new (k + 1)
 put_more t place v rows new k x y apart h f g s e p = record {
   placed = HasRows-with_value t rows new (place k) x h e s.placed;
   fits =
-      below_more (λ j. t.level ≤ j → row_passes (entry v j) (width_for t (place j)) ≡ false) k s.fits
-      (λ m. subst (λ z. row_passes z (width_for t (place k)) ≡ false) (g ∙ f) p);
+      below_more (λ j. t.level ≤ j → row_overflows (entry v j) (width_for t (place j)) ≡ false) k s.fits
+      (λ m. subst (λ z. row_overflows z (width_for t (place k)) ≡ false) (g ∙ f) p);
   put =
       below_more (λ j. t.level ≤ j → value_at new (place j) ≡ entry v j) k
       (λ j l m. value-other rows new (place k) (place j) x (apart j l) e ∙ s.put j l m)
@@ -40,10 +40,10 @@ put_more t place v rows new k x y apart h f g s e p = record {
 
 pub all_put : (t : Tabled) (place : ℕ → ℕ) (v : List ℤ) (rows : List Reading) (k end : ℕ) → IsTabled t
     → PutSoFar t place v rows k → end ≡ last_of t + 1 → end ≤ k
-    → first_from t.level (generators t) (λ j. row_passes (entry v j) (width_for t (place j))) ≡ None
+    → first_from t.level (generators t) (λ j. row_overflows (entry v j) (width_for t (place j))) ≡ None
 all_put t place v rows k end h s e l =
     let nonempty : 0 < length t.polys = h.nonempty in
-    first_none (λ j. row_passes (entry v j) (width_for t (place j))) t.level (generators t) (λ j a b. s.fits j (omega arith) a)
+    first_none (λ j. row_overflows (entry v j) (width_for t (place j))) t.level (generators t) (λ j a b. s.fits j (omega arith) a)
 
 pub named_first : (place : ℕ → WideAt) (p : ℕ → Bool) (t : Tabled) (k : ℕ) (at : WideAt) → IsTabled t → t.level ≤ k
     → k ≤ last_of t → ((j : ℕ) → j < k → t.level ≤ j → p j ≡ false) → p k ≡ true → at ≡ place k
@@ -55,15 +55,15 @@ named_first place p t k at h low high before e f =
 
 -- ---- sums
 pub record SumsSoFar (t : Tabled) (a : ℕ → ℤ) (sums : List ℤ) (k : ℕ) : Type 0 where
-  pub fits : (j : ℕ) → j < k → t.level ≤ j → sum_passes a (poly_at t j) ≡ false
+  pub fits : (j : ℕ) → j < k → t.level ≤ j → sum_overflows a (poly_at t j) ≡ false
   pub made : (j : ℕ) → j < k → t.level ≤ j
       → (entry sums j ≡ value_of a (poly_at t j)) × (unsigned_abs (entry sums j) < 2 ^ 127)
 
 pub all_sums : (t : Tabled) (a : ℕ → ℤ) (sums : List ℤ) (k end : ℕ) → IsTabled t → SumsSoFar t a sums k
-    → end ≡ last_of t + 1 → end ≤ k → first_from t.level (generators t) (λ j. sum_passes a (poly_at t j)) ≡ None
+    → end ≡ last_of t + 1 → end ≤ k → first_from t.level (generators t) (λ j. sum_overflows a (poly_at t j)) ≡ None
 all_sums t a sums k end h s e l =
     let nonempty : 0 < length t.polys = h.nonempty in
-    first_none (λ j. sum_passes a (poly_at t j)) t.level (generators t) (λ j b c. s.fits j (omega arith) b)
+    first_none (λ j. sum_overflows a (poly_at t j)) t.level (generators t) (λ j b c. s.fits j (omega arith) b)
 
 -- ---- the vector that is written
 pub record WrittenSoFar (sums : List ℤ) (level last : ℕ) (out : List ℤ) (k : ℕ) : Type 0 where
@@ -82,8 +82,8 @@ entry_read v k y h = sym (get_or_from_slice_get v (k - 1) y (pos 0) h)
 
 pub put_named : (place : ℕ → WideAt) (side : ℕ → ℕ) (t : Tabled) (v : List ℤ) (rows : List Reading) (k : ℕ) (x y : ℤ)
     (at : WideAt) → IsTabled t → t.level ≤ k → k ≤ last_of t → PutSoFar t side v rows k → y ≡ entry v k → x ≡ y
-    → row_passes x (width_for t (side k)) ≡ true → at ≡ place k
-    → option_map place (first_from t.level (generators t) (λ j. row_passes (entry v j) (width_for t (side j)))) ≡ Some at
+    → row_overflows x (width_for t (side k)) ≡ true → at ≡ place k
+    → option_map place (first_from t.level (generators t) (λ j. row_overflows (entry v j) (width_for t (side j)))) ≡ Some at
 put_named place side t v rows k x y at h low high s f g p e =
-    named_first place (λ j. row_passes (entry v j) (width_for t (side j))) t k at h low high s.fits
-    (subst (λ z. row_passes z (width_for t (side k)) ≡ true) (g ∙ f) p) e
+    named_first place (λ j. row_overflows (entry v j) (width_for t (side j))) t k at h low high s.fits
+    (subst (λ z. row_overflows z (width_for t (side k)) ≡ true) (g ∙ f) p) e

@@ -18,7 +18,7 @@ use Rattle.hall_table.specs.declared.wide_at.WideAt.TheVariants.{RowX, RowY, Sum
 use Rattle.hall_table.specs.Shape.{y_of, is_lower, AreLower}
 use Rattle.hall_table.specs.Tabled.{Tabled, IsTabled, last_of, poly_at}
 use Rattle.hall_table.specs.Values.{point_of, values}
-use Rattle.hall_table.specs.Order.{first_from, generators, named, sum_passes, x_passes, y_passes, sum_at_passes, multiplied}
+use Rattle.hall_table.specs.Order.{first_from, generators, named, sum_overflows, x_overflows, y_overflows, sum_at_overflows, multiplied}
 use Rattle.hall_table.proofs.Covering.{poly_lower}
 use Rattle.hall_table.proofs.Putting.{Agree, value-agree, magnitude-agree}
 
@@ -81,10 +81,10 @@ first_same p q low (suc d) h =
     ∙ ap (λ (r : Option ℕ). cond (q low) (Some low) r) (first_same p q (suc low) d (λ k l m. h k (omega arith) (omega arith)))
 
 sums_same : (t : Tabled) (a b : List ℤ) (rows : List Reading) → IsTabled t → Hold t a b rows
-    → first_from t.level (generators t) (sum_at_passes t a b)
-    ≡ first_from t.level (generators t) (λ k. sum_passes (value_at rows) (poly_at t k))
+    → first_from t.level (generators t) (sum_at_overflows t a b)
+    ≡ first_from t.level (generators t) (λ k. sum_overflows (value_at rows) (poly_at t k))
 sums_same t a b rows h r =
-    first_same (sum_at_passes t a b) (λ k. sum_passes (value_at rows) (poly_at t k)) t.level (generators t)
+    first_same (sum_at_overflows t a b) (λ k. sum_overflows (value_at rows) (poly_at t k)) t.level (generators t)
     (λ k l m.
     ap (λ (n : ℕ). nat_le (2 ^ 127) n)
     (sym (magnitude-agree (value_at rows) (point_of a b) (poly_at t k) (points_agree t a b rows k h r l (omega arith)))))
@@ -95,23 +95,23 @@ named_at place None at rest h = cc
 named_at place (Some k) at rest h = cc
 
 pub sum_named : (t : Tabled) (a b : List ℤ) (rows : List Reading) (at : WideAt) → IsTabled t → Hold t a b rows
-    → first_from t.level (generators t) (x_passes t a) ≡ None → first_from t.level (generators t) (y_passes t b) ≡ None
-    → option_map Sum (first_from t.level (generators t) (λ k. sum_passes (value_at rows) (poly_at t k))) ≡ Some at
+    → first_from t.level (generators t) (x_overflows t a) ≡ None → first_from t.level (generators t) (y_overflows t b) ≡ None
+    → option_map Sum (first_from t.level (generators t) (λ k. sum_overflows (value_at rows) (poly_at t k))) ≡ Some at
     → multiplied t a b ≡ Err at
 sum_named t a b rows at h r x y s =
-    let rest = named Sum (first_from t.level (generators t) (sum_at_passes t a b)) (Ok (values t a b)) in
-    ap (λ (f : Option ℕ). named RowX f (named RowY (first_from t.level (generators t) (y_passes t b)) rest)) x
+    let rest = named Sum (first_from t.level (generators t) (sum_at_overflows t a b)) (Ok (values t a b)) in
+    ap (λ (f : Option ℕ). named RowX f (named RowY (first_from t.level (generators t) (y_overflows t b)) rest)) x
     ∙ ap (λ (f : Option ℕ). named RowY f rest) y
-    ∙ named_at Sum (first_from t.level (generators t) (sum_at_passes t a b)) at (Ok (values t a b))
+    ∙ named_at Sum (first_from t.level (generators t) (sum_at_overflows t a b)) at (Ok (values t a b))
     (ap (option_map Sum) (sums_same t a b rows h r) ∙ s)
 
 product_made : (t : Tabled) (a b : List ℤ) (rows : List Reading) → IsTabled t → Hold t a b rows
-    → first_from t.level (generators t) (x_passes t a) ≡ None → first_from t.level (generators t) (y_passes t b) ≡ None
-    → first_from t.level (generators t) (λ k. sum_passes (value_at rows) (poly_at t k)) ≡ None
+    → first_from t.level (generators t) (x_overflows t a) ≡ None → first_from t.level (generators t) (y_overflows t b) ≡ None
+    → first_from t.level (generators t) (λ k. sum_overflows (value_at rows) (poly_at t k)) ≡ None
     → multiplied t a b ≡ Ok (values t a b)
 product_made t a b rows h r x y s =
-    let rest = named Sum (first_from t.level (generators t) (sum_at_passes t a b)) (Ok (values t a b)) in
-    ap (λ (f : Option ℕ). named RowX f (named RowY (first_from t.level (generators t) (y_passes t b)) rest)) x
+    let rest = named Sum (first_from t.level (generators t) (sum_at_overflows t a b)) (Ok (values t a b)) in
+    ap (λ (f : Option ℕ). named RowX f (named RowY (first_from t.level (generators t) (y_overflows t b)) rest)) x
     ∙ ap (λ (f : Option ℕ). named RowY f rest) y
     ∙ ap (λ (f : Option ℕ). named Sum f (Ok (values t a b))) (sums_same t a b rows h r ∙ s)
 
@@ -149,7 +149,7 @@ values_written t a b rows sums out level last h r s e f o =
     ]))
 
 pub product_written : (t : Tabled) (a b out : List ℤ) (rows : List Reading) → IsTabled t → Hold t a b rows
-    → first_from t.level (generators t) (x_passes t a) ≡ None → first_from t.level (generators t) (y_passes t b) ≡ None
-    → first_from t.level (generators t) (λ k. sum_passes (value_at rows) (poly_at t k)) ≡ None
+    → first_from t.level (generators t) (x_overflows t a) ≡ None → first_from t.level (generators t) (y_overflows t b) ≡ None
+    → first_from t.level (generators t) (λ k. sum_overflows (value_at rows) (poly_at t k)) ≡ None
     → out ≡ values t a b → multiplied t a b ≡ Ok out
 product_written t a b out rows h r x y s e = product_made t a b rows h r x y s ∙ ap (λ v. Ok v) (sym e)

@@ -7,8 +7,8 @@ use Rattle.std.proofs.lemmas.Bool.Decides.{nat_tests}
 use lib.IntN.{ℤ}
 use lib.Dec.{leb}
 use Rattle.nil_num.specs.Row.{written_product}
-use Rattle.binom_poly.specs.Readings.{RowPasses}
-use Rattle.hall_table.specs.Order.{first_from, passes_below, row_passes}
+use Rattle.binom_poly.specs.Readings.{RowOverflows}
+use Rattle.hall_table.specs.Order.{first_from, overflows_below, row_overflows}
 
 -- ---- the first number with a property
 none_before : (p : ℕ → Bool) (low d k : ℕ) → k ≤ low → low < k + d → ((j : ℕ) → k ≤ j → j < low → p j ≡ false)
@@ -47,24 +47,24 @@ first_none p low (suc d) h =
     ∙ first_none p (suc low) d (λ j l m. h j (omega arith) (omega arith))
 
 -- ---- rows
-below_of : (x : ℤ) (n : ℕ) → passes_below x n ≡ true → (k : ℕ) × (k < n) × (2 ^ 127 ≤ unsigned_abs (written_product x k))
+below_of : (x : ℤ) (n : ℕ) → overflows_below x n ≡ true → (k : ℕ) × (k < n) × (2 ^ 127 ≤ unsigned_abs (written_product x k))
 below_of x zero h = absurd (false≢true h)
 below_of x (suc n) h =
     elim (cases_Bool (leb (2 ^ 127) (unsigned_abs (written_product x n)))) [
       | inl b ↦ (n, omega arith, leb-true (2 ^ 127) (unsigned_abs (written_product x n)) b)
       | inr b ↦
-          let (k, l, p) = below_of x n (sym (ap (λ (c : Bool). c || passes_below x n) b) ∙ h) in
+          let (k, l, p) = below_of x n (sym (ap (λ (c : Bool). c || overflows_below x n) b) ∙ h) in
           (k, omega arith, p)
     ]
 
-of_below : (x : ℤ) (n k : ℕ) → k < n → 2 ^ 127 ≤ unsigned_abs (written_product x k) → passes_below x n ≡ true
+of_below : (x : ℤ) (n k : ℕ) → k < n → 2 ^ 127 ≤ unsigned_abs (written_product x k) → overflows_below x n ≡ true
 of_below x zero k l h = absurd (omega arith)
 of_below x (suc n) k l h =
     elim (same_or_less k n (omega arith)) [
       | inl e ↦
-          ap (λ (c : Bool). c || passes_below x n)
+          ap (λ (c : Bool). c || overflows_below x n)
           (le-leb (2 ^ 127) (unsigned_abs (written_product x n)) (subst (λ (j : ℕ). 2 ^ 127 ≤ unsigned_abs (written_product x j)) e h))
-      | inr m ↦ or_true (leb (2 ^ 127) (unsigned_abs (written_product x n))) (passes_below x n) (of_below x n k m h)
+      | inr m ↦ or_true (leb (2 ^ 127) (unsigned_abs (written_product x n))) (overflows_below x n) (of_below x n k m h)
     ]
   where
     same_or_less : (i j : ℕ) → i ≤ j → (i ≡ j) ⊎ (i < j)
@@ -74,21 +74,21 @@ of_below x (suc n) k l h =
     or_true true b e = refl
     or_true false b e = e
 
-pub row_passes-of : (x : ℤ) (n : ℕ) → RowPasses x n → row_passes x n ≡ true
-row_passes-of x zero (k, l, h) = absurd (omega arith)
-row_passes-of x (suc n) (k, l, h) = of_below x n k (omega arith) h
+pub row_overflows-of : (x : ℤ) (n : ℕ) → RowOverflows x n → row_overflows x n ≡ true
+row_overflows-of x zero (k, l, h) = absurd (omega arith)
+row_overflows-of x (suc n) (k, l, h) = of_below x n k (omega arith) h
 
-pub row_fits-of : (x : ℤ) (n : ℕ) → (RowPasses x n → ⊥) → row_passes x n ≡ false
+pub row_fits-of : (x : ℤ) (n : ℕ) → (RowOverflows x n → ⊥) → row_overflows x n ≡ false
 row_fits-of x zero h = refl
 row_fits-of x (suc n) h =
-    elim (cases_Bool (passes_below x n)) [
+    elim (cases_Bool (overflows_below x n)) [
       | inl b ↦ (let (k, l, p) = below_of x n b in absurd (h (k, omega arith, p)))
       | inr b ↦ b
     ]
 
-pub put_fits : (x y : ℤ) (n w : ℕ) → y ≡ x → w ≡ n → (RowPasses y w → ⊥) → row_passes x n ≡ false
+pub put_fits : (x y : ℤ) (n w : ℕ) → y ≡ x → w ≡ n → (RowOverflows y w → ⊥) → row_overflows x n ≡ false
 put_fits x y n w e f h =
-    row_fits-of x n (λ p. h (subst (λ z. RowPasses z w) (sym e) (subst (RowPasses x) (sym f) p)))
+    row_fits-of x n (λ p. h (subst (λ z. RowOverflows z w) (sym e) (subst (RowOverflows x) (sym f) p)))
 
-pub put_passes : (x y : ℤ) (n w : ℕ) → y ≡ x → w ≡ n → RowPasses y w → row_passes x n ≡ true
-put_passes x y n w e f h = row_passes-of x n (subst (RowPasses x) f (subst (λ z. RowPasses z w) e h))
+pub put_overflows : (x y : ℤ) (n w : ℕ) → y ≡ x → w ≡ n → RowOverflows y w → row_overflows x n ≡ true
+put_overflows x y n w e f h = row_overflows-of x n (subst (RowOverflows x) f (subst (λ z. RowOverflows z w) e h))

@@ -21,7 +21,7 @@ impl Table {
     ghost use Rattle.hall_table.specs.Tabled.{IsTabled, last_of, poly_at};
     ghost use Rattle.hall_table.specs.Values.{values};
     ghost use Rattle.hall_table.specs.Width.{HasRows, width_for};
-    ghost use Rattle.hall_table.specs.Order.{first_from, generators, multiplied, row_passes, sum_passes, x_passes, y_passes};
+    ghost use Rattle.hall_table.specs.Order.{first_from, generators, multiplied, row_overflows, sum_overflows, x_overflows, y_overflows};
 
     /// Puts the value of `x_k`. The number isn't `i128::MIN`. After a refusal the value is 0.
     pub fn set_x(&self, rows: &mut Rows, k: u32, x: i128) -> Result<(), WideAt>
@@ -32,8 +32,8 @@ impl Table {
         ensures ok { OnOk result (rows.new ≡ with_value rows.old k x) }
         ensures err { OnErr result (rows.new ≡ with_value rows.old k (pos 0)) }
         ensures wide { MatchResult result
-            (λ _. row_passes x (width_for self.now k) ≡ false)
-            (λ at. (at ≡ WideAt.RowX k) × (row_passes x (width_for self.now k) ≡ true)) }
+            (λ _. row_overflows x (width_for self.now k) ≡ false)
+            (λ at. (at ≡ WideAt.RowX k) × (row_overflows x (width_for self.now k) ≡ true)) }
         ensures rows { HasRows self.now rows.new }
     {
         match rows.put(k, x) {
@@ -51,8 +51,8 @@ impl Table {
         ensures ok { OnOk result (rows.new ≡ with_value rows.old (y_of k) x) }
         ensures err { OnErr result (rows.new ≡ with_value rows.old (y_of k) (pos 0)) }
         ensures wide { MatchResult result
-            (λ _. row_passes x (width_for self.now (y_of k)) ≡ false)
-            (λ at. (at ≡ WideAt.RowY k) × (row_passes x (width_for self.now (y_of k)) ≡ true)) }
+            (λ _. row_overflows x (width_for self.now (y_of k)) ≡ false)
+            (λ at. (at ≡ WideAt.RowY k) × (row_overflows x (width_for self.now (y_of k)) ≡ true)) }
         ensures rows { HasRows self.now rows.new }
     {
         let _ = self.last();
@@ -70,9 +70,9 @@ impl Table {
         ensures value { IfOk result (λ v. v ≡ value_of (value_at rows.now) (poly_at self.now k)) }
         ensures within { IfOk result (λ v. unsigned_abs v < 2 ^ 127) }
         ensures wide { MatchResult result
-            (λ _. sum_passes (value_at rows.now) (poly_at self.now k) ≡ false)
+            (λ _. sum_overflows (value_at rows.now) (poly_at self.now k) ≡ false)
             (λ at. (at ≡ WideAt.Sum k)
-            × (sum_passes (value_at rows.now) (poly_at self.now k) ≡ true)) }
+            × (sum_overflows (value_at rows.now) (poly_at self.now k) ≡ true)) }
     {
         match value(&self.polys[(k - self.level) as usize], rows) {
             Ok(value) => Ok(value),
@@ -85,9 +85,9 @@ impl Table {
         requires length { length a.now ≡ last_of self.now }
         requires rows { HasRows self.now rows.old }
         ensures first { MatchResult result
-            (λ _. first_from self.now.level (generators self.now) (x_passes self.now a.now) ≡ None)
+            (λ _. first_from self.now.level (generators self.now) (x_overflows self.now a.now) ≡ None)
             (λ at. option_map WideAt.RowX
-            (first_from self.now.level (generators self.now) (x_passes self.now a.now)) ≡ Some at) }
+            (first_from self.now.level (generators self.now) (x_overflows self.now a.now)) ≡ Some at) }
         ensures rows { HasRows self.now rows.new }
         ensures put { OnOk result ((k : ℕ) → self.now.level ≤ k → k ≤ last_of self.now
             → value_at rows.new k ≡ entry a.now k) }
@@ -108,9 +108,9 @@ impl Table {
         requires length { length b.now ≡ last_of self.now }
         requires rows { HasRows self.now rows.old }
         ensures first { MatchResult result
-            (λ _. first_from self.now.level (generators self.now) (y_passes self.now b.now) ≡ None)
+            (λ _. first_from self.now.level (generators self.now) (y_overflows self.now b.now) ≡ None)
             (λ at. option_map WideAt.RowY
-            (first_from self.now.level (generators self.now) (y_passes self.now b.now)) ≡ Some at) }
+            (first_from self.now.level (generators self.now) (y_overflows self.now b.now)) ≡ Some at) }
         ensures rows { HasRows self.now rows.new }
         ensures put { OnOk result ((k : ℕ) → self.now.level ≤ k → k ≤ last_of self.now
             → value_at rows.new (y_of k) ≡ entry b.now k) }
@@ -133,9 +133,9 @@ impl Table {
         requires rows { HasRows self.now rows.now }
         ensures first { MatchResult result
             (λ _. first_from self.now.level (generators self.now)
-            (λ k. sum_passes (value_at rows.now) (poly_at self.now k)) ≡ None)
+            (λ k. sum_overflows (value_at rows.now) (poly_at self.now k)) ≡ None)
             (λ at. option_map WideAt.Sum (first_from self.now.level (generators self.now)
-            (λ k. sum_passes (value_at rows.now) (poly_at self.now k))) ≡ Some at) }
+            (λ k. sum_overflows (value_at rows.now) (poly_at self.now k))) ≡ Some at) }
         ensures length { length sums.new ≡ 48 }
         ensures sums { OnOk result ((k : ℕ) → self.now.level ≤ k → k ≤ last_of self.now
             → (entry sums.new k ≡ value_of (value_at rows.now) (poly_at self.now k))

@@ -67,7 +67,7 @@ fn are_allowed(terms: &[Term], level: u32, k: u32) -> bool
 }
 
 // The test of the shape.
-fn passes(terms: &[Term], level: u32, k: u32) -> bool
+fn is_shaped(terms: &[Term], level: u32, k: u32) -> bool
     requires most { k ≤ 48 }
     requires level { level ≤ 48 }
     ensures { result ≡ has_shape level k terms.now }
@@ -83,5 +83,5 @@ pub fn has_shape(poly: &Poly, level: u32, k: u32) -> bool
     ensures form { IsPolynomial poly.now }
 {
     let terms = poly.terms();
-    passes(terms, level, k)
+    is_shaped(terms, level, k)
 }

@@ -85,7 +85,7 @@ fn a_product_is_written_or_its_first_wide_place_is_named(rt: HostRuntime) -> Res
     let mut out = Vector::zero(alloc, 3)?;
     assert_eq!(rt; table.multiply_into(&mut rows, &a, &b, &mut out), Ok(()));
     assert_eq!(rt; out.entries(), [5, 7, 17].as_slice());
-    // x2*y1 passes alone, though x3 + y3 doesn't
+    // x2*y1 overflows alone, though x3 + y3 doesn't
     let wide = vector(alloc, 1 << 64, 1 << 64, 0)?;
     assert_eq!(rt;
         table.multiply_into(&mut rows, &wide, &wide, &mut out),

@@ -37,21 +37,21 @@ impl Model for MemoryShelf {
 impl Shelf for MemoryShelf {
     ghost use Rattle.std.specs.Prelude.{◌≡◌, ℕ, ◌<◌, ◌≤◌, List, length, vec_len, IfOk, IfSome, IfNone, IsErrOf, IsOkUnless};
     ghost use Rattle.nil_io.specs.Causes.{ShelfCauses};
-    ghost use Rattle.nil_io.specs.Files.{told};
+    ghost use Rattle.nil_io.specs.Files.{contents_of};
     ghost use Rattle.nil_io.specs.Memory.{fault_of, next};
 
-    ghost contents = { λ s n. told s.files n };
+    ghost contents = { λ s n. contents_of s.files n };
 
     ghost faults = { λ s _. s.faults };
 
     ghost longs = { λ s _ _. s.longs };
 
     fn read(&mut self, alloc: Global, name: &str, limit: u64) -> Result<Vec<u8>, ShelfFault>
-        ensures same { (n : List ℕ) → told self.new.files n ≡ told self.old.files n }
-        ensures bytes { IfOk result (λ v. IfSome (told self.old.files name.now) (λ xs. v.items ≡ xs)) }
+        ensures same { (n : List ℕ) → contents_of self.new.files n ≡ contents_of self.old.files n }
+        ensures bytes { IfOk result (λ v. IfSome (contents_of self.old.files name.now) (λ xs. v.items ≡ xs)) }
         ensures bound { IfOk result (λ v. vec_len v ≤ limit) }
-        ensures told_long { IsErrOf result ShelfFault.Long →
-            IfSome (told self.old.files name.now) (λ xs. limit < length xs) }
+        ensures known_long { IsErrOf result ShelfFault.Long →
+            IfSome (contents_of self.old.files name.now) (λ xs. limit < length xs) }
         ensures causes { ShelfCauses name.now limit (λ _. self.old.faults) (λ _. self.new.faults)
             (λ _ _. self.old.longs) (λ _ _. self.new.longs) result }
         ensures refused { IfSome (fault_of self.old name.now limit) (λ fault. IsErrOf result fault) }

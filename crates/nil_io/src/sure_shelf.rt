@@ -28,27 +28,27 @@ impl Model for SureShelf {
 impl Shelf for SureShelf {
     ghost use Rattle.std.specs.Prelude.{◌≡◌, ℕ, ◌<◌, ◌≤◌, List, Some, length, vec_len, IfOk, IfSome, IfNone, IsErrOf, IsOkUnless};
     ghost use Rattle.nil_io.specs.Causes.{ShelfCauses};
-    ghost use Rattle.nil_io.specs.Files.{told_or_empty};
+    ghost use Rattle.nil_io.specs.Files.{contents_of_or_empty};
     ghost use Rattle.nil_io.specs.Memory.{fault_within};
 
-    ghost contents = { λ s n. Some (told_or_empty s.files n) };
+    ghost contents = { λ s n. Some (contents_or_empty s.files n) };
 
     ghost faults = { λ _ _. 0 };
 
     ghost longs = { λ s _ _. s.longs };
 
     fn read(&mut self, alloc: Global, name: &str, limit: u64) -> Result<Vec<u8>, ShelfFault>
-        ensures same { (n : List ℕ) → Some (told_or_empty self.new.files n) ≡ Some
-            (told_or_empty self.old.files n) }
-        ensures bytes { IfOk result (λ v. v.items ≡ told_or_empty self.old.files name.now) }
+        ensures same { (n : List ℕ) → Some (contents_or_empty self.new.files n) ≡ Some
+            (contents_or_empty self.old.files n) }
+        ensures bytes { IfOk result (λ v. v.items ≡ contents_or_empty self.old.files name.now) }
         ensures bound { IfOk result (λ v. vec_len v ≤ limit) }
-        ensures told_long { IsErrOf result ShelfFault.Long →
-            limit < length (told_or_empty self.old.files name.now) }
+        ensures known_long { IsErrOf result ShelfFault.Long →
+            limit < length (contents_or_empty self.old.files name.now) }
         ensures causes { ShelfCauses name.now limit (λ _. 0) (λ _. 0)
             (λ _ _. self.old.longs) (λ _ _. self.new.longs) result }
-        ensures refused { IfSome (fault_within limit (Some (told_or_empty self.old.files name.now)))
+        ensures refused { IfSome (fault_within limit (Some (contents_or_empty self.old.files name.now)))
             (λ fault. IsErrOf result fault) }
-        ensures taken { IfNone (fault_within limit (Some (told_or_empty self.old.files name.now)))
+        ensures taken { IfNone (fault_within limit (Some (contents_or_empty self.old.files name.now)))
             (IsOkUnless result ShelfFault.Memory) }
     {
         let file = named(&self.files, name).unwrap_or(&[]);

@@ -1,7 +1,7 @@
 //! The coefficients of a product of two binomial coefficients.
 
 ghost use Rattle.std.specs.Prelude.{◌+◌, ◌*◌, ◌-◌, ◌/◌, ◌^◌, ◌<◌, ◌≤◌, max};
-ghost use Rattle.whole.specs.Binomial.{ways};
+ghost use Rattle.integer.specs.Binomial.{ways};
 ghost use Rattle.nil_num.specs.Fit.{FitOrPast};
 
 use crate::fit::{Past, add_fit, mul_fit};
@@ -19,7 +19,7 @@ fn scaled(number: u128, factor: u32, divisor: u32) -> Result<u128, Past>
     add_fit(whole, number % divisor * factor / divisor)
 }
 
-// `start` times `n + m` over `m`. The products on the way ascend, so one that passes shows that the last does.
+// `start` times `n + m` over `m`. The products on the way ascend, so one that overflows shows that the last does.
 fn times_binomial(start: u128, n: u32, m: u32) -> Result<u128, Past>
     requires within { start < 2 ^ 127 }
     requires small { n + m ≤ 1000 }

@@ -8,9 +8,9 @@ use thiserror::Error;
 /// The greatest magnitude of a number.
 pub const MAX: i128 = i128::MAX;
 
-/// A result passes `MAX`.
+/// A result is above `MAX`.
 #[derive(Debug, Clone, Copy, PartialEq, Eq, Drop, Error)]
-#[error("a number passes 2^127 - 1")]
+#[error("a number is above 2^127 - 1")]
 pub struct Past;
 
 /// The sum, where it is at most `MAX`.

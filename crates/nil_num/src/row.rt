@@ -1,14 +1,14 @@
 //! Rows of binomial coefficients of one number.
 
 ghost use Rattle.std.specs.Prelude.{◌≡◌, ◌+◌, ◌*◌, ◌^◌, ◌<◌, ◌≤◌, MatchOption, OnOk, IfErr, unsigned_abs, length};
-ghost use Rattle.whole.specs.Binomial.{choose};
-ghost use Rattle.nil_num.specs.Row.{IsWithinMax, IsRow, PassesAt, written_product};
+ghost use Rattle.integer.specs.Binomial.{choose};
+ghost use Rattle.nil_num.specs.Row.{IsWithinMax, IsRow, OverflowsAt, written_product};
 
 use thiserror::Error;
 
-/// The first place whose written product passes `MAX`.
+/// The first place whose written product is above `MAX`.
 #[derive(Debug, Clone, Copy, PartialEq, Eq, Drop, Error)]
-#[error("the product for place {place} passes 2^127 - 1")]
+#[error("the product for place {place} is above 2^127 - 1")]
 pub struct PastAt {
     pub place: usize,
 }
@@ -36,14 +36,14 @@ fn next_binomial(x: i128, entry: i128, k: u32) -> Option<i128>
 
 /// Writes `x` over 0, `x` over 1 and so on.
 ///
-/// A place after the first is made by a product and a division. At the first place whose product passes
+/// A place after the first is made by a product and a division. At the first place whose product overflows
 /// `MAX` the call refuses, though the quotient might fit; that place and the later ones are as before.
 pub fn binomial_row(x: i128, row: &mut [i128]) -> Result<(), PastAt>
     requires nonempty { 0 < length row.old }
     requires short { length row.old ≤ 1001 }
     requires number { IsWithinMax x }
     ensures written { OnOk result (IsRow x (length row.old) row.new) }
-    ensures past { IfErr result (λ past. PassesAt x past.place row.old row.new) }
+    ensures past { IfErr result (λ past. OverflowsAt x past.place row.old row.new) }
 {
     row[0] = 1;
     for place in 1..row.len() {

@@ -8,7 +8,7 @@ use Rattle.nil_io.specs.Causes.{Rose}
 use Rattle.query_session.specs.declared.status.Status.{Status}
 use Rattle.query_session.specs.declared.status.Status.TheVariants as s
 use Rattle.query_session.specs.Limits.{file_limit}
-use Rattle.query_session.specs.Outside.{Asked, Fed, IsTold, run_name, IsSmooth}
+use Rattle.query_session.specs.Outside.{Asked, Fed, IsKnown, run_name, IsSmooth}
 use Rattle.query_session.specs.Runs.{IsFileRefused, bad_file, outside, IsRefused, usage, shelf_failed, shelf_long, in_file, IsOutput, refused, done, source_failed, source_long, Wrote, IsRun}
 
 -- what is taken is a front of what was there
@@ -21,31 +21,31 @@ length-taken (Some ys) (Some zs) taken xs e h =
     let same : ys ≡ xs = cc in
     omega (arith, ap length same, ap length h, length-append taken zs)
 
-told-is : (o : Option (List ℕ)) (file xs : List ℕ) → o ≡ Some xs → IfSome o (λ told. file ≡ told)
+known-is : (o : Option (List ℕ)) (file xs : List ℕ) → o ≡ Some xs → IfSome o (λ known. file ≡ known)
     → file ≡ xs
-told-is None file xs e h = cc
-told-is (Some ys) file xs e h = let same : ys ≡ xs = cc in h ∙ same
+known-is None file xs e h = cc
+known-is (Some ys) file xs e h = let same : ys ≡ xs = cc in h ∙ same
 
-long-told : (o : Option (List ℕ)) (xs : List ℕ) (limit : ℕ) → o ≡ Some xs
-    → IfSome o (λ told. limit < length told) → limit < length xs
-long-told None xs limit e h = cc
-long-told (Some ys) xs limit e h = let same : ys ≡ xs = cc in omega (arith, h, ap length same)
+long-known : (o : Option (List ℕ)) (xs : List ℕ) (limit : ℕ) → o ≡ Some xs
+    → IfSome o (λ known. limit < length known) → limit < length xs
+long-known None xs limit e h = cc
+long-known (Some ys) xs limit e h = let same : ys ≡ xs = cc in omega (arith, h, ap length same)
 
 module _
     (one : (file : List ℕ) (p q : Presented) → IsFile p file → IsFile q file → p ≡ q)
     (none : (file : List ℕ) (p : Presented) → IsFile p file → first_fault file ≡ None)
     (a : Asked) (f : Fed) (p : Presented) (smooth : IsSmooth a f p) where
-  told_file : (file : List ℕ) → IsTold a file → file ≡ smooth.file
-  told_file file h =
-      told-is (option_and_then a.contents (run_name a.words)) file smooth.file
-      (ap (option_and_then a.contents) smooth.named ∙ smooth.told) h
+  known_file : (file : List ℕ) → IsKnown a file → file ≡ smooth.file
+  known_file file h =
+      known-is (option_and_then a.contents (run_name a.words)) file smooth.file
+      (ap (option_and_then a.contents) smooth.named ∙ smooth.known) h
 
   same_name : (name : List ℕ) → run_name a.words ≡ Some name → name ≡ smooth.name
   same_name name h = let k = smooth.named in cc
 
-  module _ (file : List ℕ) (told : IsTold a file) where
+  module _ (file : List ℕ) (known : IsKnown a file) where
     is_file : IsFile p file
-    is_file = subst (IsFile p) (sym (told_file file told)) smooth.is_file
+    is_file = subst (IsFile p) (sym (known_file file known)) smooth.is_file
 
     file_not_refused : (status : Status) → IsFileRefused file status → ⊥
     file_not_refused status (bad_file line kind e) = let k = none file p is_file in cc
@@ -57,8 +57,8 @@ module _
     not_refused status (shelf_failed n e r) =
         smooth.shelf (subst (λ (x : List ℕ). Rose (a.faults x) (a.faults' x)) (same_name n e) r)
     not_refused status (shelf_long n e r l) =
-        let l' : file_limit < length smooth.file = long-told (a.contents n) smooth.file file_limit
-        (ap a.contents (same_name n e) ∙ smooth.told) l in
+        let l' : file_limit < length smooth.file = long-known (a.contents n) smooth.file file_limit
+        (ap a.contents (same_name n e) ∙ smooth.known) l in
         omega (arith, l', smooth.within)
     not_refused status (in_file n t e r) = file_not_refused t r
 
@@ -91,6 +91,6 @@ module _
       (old new : Option (List ℕ)) → IsRun a f status old new → IsSmooth a f p → (status ≡ s.WriteFault → ⊥)
       → (status ≡ s.Done) ⊎ (status ≡ s.Memory)
   ends-smoothly a f p status old new run smooth n =
-      wrote_done one none a f p smooth run.file run.told run.answered.taken run.answered.took status
+      wrote_done one none a f p smooth run.file run.known run.answered.taken run.answered.took status
       old new
       run.answered.wrote n

@@ -1,4 +1,4 @@
--- A list cut at its first element that passes.
+-- A list cut at its first element that overflows.
 use Rattle.std.proofs.Common.{◌≡◌, ℕ, ◌+◌, ◌≤◌, cond, Bool, true, false, Some, None, List, [], ◌∷◌, length, take, drop, not, position, nat_lt, refl, ap, ◌∙◌, arith}
 use Rattle.std.specs.List.{position_or_len, slice_split, onto_first}
 use Rattle.std.proofs.lemmas.List.Splits.{slice_split_first}
@@ -25,16 +25,16 @@ step_none : (b : Bool) (x : ℕ) (xs : List ℕ) (n : ℕ) (s : List (List ℕ))
 step_none true x xs n s h k = absurd (omega arith)
 step_none false x xs n s h k = ap (onto_first x) (k (omega arith))
 
-none_passes : (p : ℕ → Bool) (xs : List ℕ) → length xs ≤ position_or_len p xs
+none_overflows : (p : ℕ → Bool) (xs : List ℕ) → length xs ≤ position_or_len p xs
     → slice_split p xs ≡ xs ∷ []
-none_passes p [] h = refl
-none_passes p (x ∷ xs) h =
-    step_none (p x) x xs (position_or_len p xs) (slice_split p xs) h (none_passes p xs)
+none_overflows p [] h = refl
+none_overflows p (x ∷ xs) h =
+    step_none (p x) x xs (position_or_len p xs) (slice_split p xs) h (none_overflows p xs)
 
--- where none passes there is one piece
+-- where none overflows there is one piece
 pub slice_split-none : (p : ℕ → Bool) (xs : List ℕ) → position p xs ≡ None
     → slice_split p xs ≡ xs ∷ []
 slice_split-none p xs h =
-    none_passes p xs
+    none_overflows p xs
     (ltb-false (position_or_len p xs) (length xs)
     (none_cond (nat_lt (position_or_len p xs) (length xs)) (position_or_len p xs) h))

@@ -15,27 +15,27 @@ use Rattle.central_table.specs.Central.{not_central}
 use Rattle.query_session.specs.Pieces.{as_line}
 use Rattle.query_session.specs.Statuses.{text_of}
 use Rattle.query_session.specs.Writing.{Ended}
-use Rattle.query_session.specs.Outside.{Asked, Fed, fed, IsTold, run_name}
+use Rattle.query_session.specs.Outside.{Asked, Fed, fed, IsKnown, run_name}
 use Rattle.query_session.specs.Runs.{IsOpened, IsAnswered, IsJudged, IsFileRefused, bad_file, outside, IsRefused, usage, shelf_failed, shelf_long, in_file, refused, before, Wrote, IsRun, HasOpened, HasRefused}
 use Rattle.query_session.proofs.Appending.{Appends-none}
 use Rattle.query_session.proofs.Written.{wrote_ended}
 
-told_of : (o : Option (List ℕ)) → (file : List ℕ) × IfSome o (λ told. file ≡ told)
-told_of None = ([], tt)
-told_of (Some x) = (x, refl)
+known_of : (o : Option (List ℕ)) → (file : List ℕ) × IfSome o (λ known. file ≡ known)
+known_of None = ([], tt)
+known_of (Some x) = (x, refl)
 
 module _ (a : Asked) where
   -- a status for whatever the file holds
   pub HasRefused-any : (status : Status)
       → ((file : List ℕ) → (status ≡ s.Memory) ⊎ IsRefused a file status) → HasRefused a status
   HasRefused-any status h =
-      let t = told_of (option_and_then a.contents (run_name a.words)) in
-      record { file = t.0; told = t.1; cause = h t.0 }
+      let t = known_of (option_and_then a.contents (run_name a.words)) in
+      record { file = t.0; known = t.1; cause = h t.0 }
 
   module _ (name file : List ℕ) (named : run_name a.words ≡ Some name)
-      (read : IfSome (a.contents name) (λ told. file ≡ told)) where
-    told : IsTold a file
-    told =
+      (read : IfSome (a.contents name) (λ known. file ≡ known)) where
+    known : IsKnown a file
+    known =
         subst (λ (o : Option (List ℕ)). IfSome (option_and_then a.contents o) (λ t. file ≡ t))
         (sym named) read
 
@@ -44,7 +44,7 @@ module _ (a : Asked) where
         → IfOk r (HasOpened a)
     HasOpened-read (Ok p) h k j = record {
       file = file;
-      told = told;
+      known = known;
       opened = record { name = name; named = named; is_file = h; central = k; consistent = j };
     }
     HasOpened-read (Err e) h k j = tt
@@ -56,7 +56,7 @@ module _ (a : Asked) where
     pub HasRefused-read : (r : Result Presented Status) → IfErr r (IsJudged file)
         → IfErr r (HasRefused a)
     HasRefused-read (Ok p) h = tt
-    HasRefused-read (Err status) h = record { file = file; told = told; cause = judged status h }
+    HasRefused-read (Err status) h = record { file = file; known = known; cause = judged status h }
 
 -- the fault of a file
 pub IsJudged-fault : (file : List ℕ) (f : PresFault) (line : ℕ) (kind : FileKind)
@@ -70,7 +70,7 @@ pub IsRun-opened : (a : Asked) (f : Fed) (p : Presented) (status : Status) (o n 
     → HasOpened a p
     → ((file : List ℕ) → IsOpened a file p → IsAnswered a f file status o n) → IsRun a f status o n
 IsRun-opened a f p status o n h answered =
-    record { file = h.file; told = h.told; answered = answered h.file h.opened }
+    record { file = h.file; known = h.known; answered = answered h.file h.opened }
 
 file_not_write_fault : (file : List ℕ) (status : Status) → IsFileRefused file status
     → status ≡ s.WriteFault → ⊥
@@ -132,12 +132,12 @@ IsRun-refused a left faults given status r o n h memory e = either h.cause
         → IsRun a (fed left left faults faults given given) r o n
     either (inl m) = record {
       file = h.file;
-      told = h.told;
+      known = h.known;
       answered = record { taken = []; took = Consumes-none left; wrote = short m };
     }
     either (inr k) = record {
       file = h.file;
-      told = h.told;
+      known = h.known;
       answered = record {
         taken = [];
         took = Consumes-none left;

@@ -3,9 +3,9 @@
 --   run_name words     the name of the presentation, where the words are `run` and a name
 --   Asked              the words, and what the shelf shows before and after a session
 --   Fed                what the source shows before and after it
---   IsTold a file      a shelf that tells the file tells these bytes
+--   IsKnown a file      a shelf that tells the file tells these bytes
 --   IsUntouched f      the source is as it was, and so are its counts
---   IsSmooth a f p     the told file says the central presentation p, file and told queries are
+--   IsSmooth a f p     the known file says the central presentation p, file and known queries are
 --                      within their limits, and no count of faults rose
 use Rattle.std.specs.Prelude.{◌≡◌, ℕ, ◌≤◌, if◌then◌else◌, List, [], ◌∷◌, map, length, String, Vec, string_bytes, Option, Some, None, IfSome, option_and_then, codes}
 use Rattle.std.specs.Str.{bytes_eq}
@@ -62,8 +62,8 @@ fed left left' faults faults' given given' = record {
   given' = given';
 }
 
-abbrev pub IsTold : Asked → List ℕ → Type 0
-IsTold a file = IfSome (option_and_then a.contents (run_name a.words)) (λ told. file ≡ told)
+abbrev pub IsKnown : Asked → List ℕ → Type 0
+IsKnown a file = IfSome (option_and_then a.contents (run_name a.words)) (λ known. file ≡ known)
 
 pub record IsUntouched (f : Fed) : Type 0 where
   pub left : f.left' ≡ f.left
@@ -74,7 +74,7 @@ pub record IsSmooth (a : Asked) (f : Fed) (p : Presented) : Type 0 where
   pub name : List ℕ
   pub named : run_name a.words ≡ Some name
   pub file : List ℕ
-  pub told : a.contents name ≡ Some file
+  pub known : a.contents name ≡ Some file
   pub is_file : IsFile p file
   pub within : length file ≤ file_limit
   pub central : not_central p ≡ None

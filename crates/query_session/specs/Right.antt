@@ -31,7 +31,7 @@ pub record IsFaulty (p : Presented) (line : List ℕ) (f : QueryFault) : Type 0 
 pub data IsReply (p : Presented) (line : List ℕ) : List ℕ → Type 0 where
   long : line_limit < length line → IsReply p line (as_line (codes "long"))
   faulty : (f : QueryFault) → IsFaulty p line f → IsReply p line (as_line (fault_text f))
-  -- a value on the way passes 128 bits by the accepted table
+  -- a value on the way overflows 128 bits by the accepted table
   wide : (q : Query) → IsQuery p line q → IsWide (central_table p) q
       → IsReply p line (as_line (codes "wide"))
   -- nothing where the line is blank

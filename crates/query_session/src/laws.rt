@@ -58,7 +58,7 @@ pub fn equal_replies()
     congruence();
 }
 
-/// A session that meets no fault answers all of a told file and told queries within their limits, or
+/// A session that meets no fault answers all of a known file and known queries within their limits, or
 /// memory is wanting.
 pub fn complete_runs()
     ensures { (a : Asked) (f : Fed) (p : Presented) (status : Status) (old new : Option (List ℕ))

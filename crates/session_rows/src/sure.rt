@@ -1,7 +1,7 @@
 //! Sessions over forms that never fail.
 
 ghost use Rattle.std.specs.Prelude.{◌≡◌, ◌≤◌, ◌⊎◌, ℕ, List, Some, None, length};
-ghost use Rattle.nil_io.specs.Files.{told_or_empty};
+ghost use Rattle.nil_io.specs.Files.{contents_or_empty};
 ghost use Rattle.nil_pres.specs.Presented.{Presented};
 ghost use Rattle.pres_text.specs.File.{IsFile};
 ghost use Rattle.central_table.specs.Central.{not_central};
@@ -22,8 +22,8 @@ pub fn sure_session(
     out: &mut SureSink,
 ) -> Status
     ensures { (p : Presented) (name : List ℕ) → run_name (texts words.now.items) ≡ Some name
-        → IsFile p (told_or_empty shelf.old.files name)
-        → length (told_or_empty shelf.old.files name) ≤ file_limit
+        → IsFile p (contents_or_empty shelf.old.files name)
+        → length (contents_or_empty shelf.old.files name) ≤ file_limit
         → not_central p ≡ None → length queries.old.left ≤ query_limit
         → (result ≡ Status.Done) ⊎ (result ≡ Status.Memory) }
 {

@@ -2,7 +2,7 @@ use Rattle.std.proofs.lemmas.Result.{err_from_is_err_and}
 use Rattle.group_eval.proofs.Halving.{odd_power}
 use Rattle.group_eval.proofs.powering.+raise.Goals as goal
 
--- the product with the base passes
+-- the product with the base overflows
 pub returns-in_err-multiply_into-2-clause-order : goal.returns-in_err-multiply_into-2-clause-order
 returns-in_err-multiply_into-2-clause-order t c = λ d l.
     let p = err_from_is_err_and c.from_residual-in_err-multiply_into-2.result

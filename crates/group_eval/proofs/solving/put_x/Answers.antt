@@ -7,7 +7,7 @@ use Rattle.hall_table.proofs.Covering.{x_positive}
 use Rattle.hall_table.proofs.Following.{entry_read, put_named, put_more, all_put}
 use Rattle.group_eval.proofs.solving.put_x.Goals as goal
 
--- the first row that passes is named
+-- the first row that overflows is named
 pub returns-in_err-set_x-clause-first : goal.returns-in_err-set_x-clause-first
 returns-in_err-set_x-clause-first c =
     let g : FitsSigned w128 c.at.result = search rules in

@@ -7,7 +7,7 @@ use Rattle.hall_table.proofs.Following.{entry_read}
 use Rattle.group_eval.proofs.Following.{difference_named, is_next, row_named, solved_more}
 use Rattle.group_eval.proofs.solving.solve_into.Goals as goal
 
--- the sum or the difference passes
+-- the sum or the difference overflows
 pub returns-in_err-difference-clause-order : goal.returns-in_err-difference-clause-order
 returns-in_err-difference-clause-order c =
     let g : FitsSigned w128 c.at.result = search rules in
@@ -20,7 +20,7 @@ returns-in_err-difference-clause-order c =
     ∙ entry_read c.args.b.now c.loop-k.k c.at.result c.at.ensures.entry)
     c.in_err-difference.ensures.wide.1)
 
--- the row passes
+-- the row overflows
 pub returns-in_err-set_y-clause-order : goal.returns-in_err-set_y-clause-order
 returns-in_err-set_y-clause-order c =
     let g : FitsSigned w128 c.at.result = search rules in

@@ -1,14 +1,14 @@
 use Rattle.std.proofs.Common.{arith, ◌+◌, ◌*◌, ◌-◌, ◌^◌, ◌≤◌, ℕ, ap, ◌∙◌, subst}
 use Rattle.std.proofs.lemmas.Result.{err_from_is_err_and}
-use Rattle.whole.specs.Binomial.{ways}
+use Rattle.integer.specs.Binomial.{ways}
 use Rattle.nil_num.specs.Fit.{FitOrPast}
-use Rattle.nil_num.proofs.Coefficients.{inner_is, outer_is, inner_passes}
+use Rattle.nil_num.proofs.Coefficients.{inner_is, outer_is, inner_overflows}
 use Rattle.nil_num.proofs.coefficient.product_coefficient.Goals as goal
 
 pub returns-in_err-inner : goal.returns-in_err-inner
 returns-in_err-inner c =
     let p = err_from_is_err_and c.from_residual.result c.from_residual.ensures.1 in
-    rw (p.1) (inner_passes (ways c.args.a (c.args.k - c.args.b)) c.args.a c.args.k (omega (arith, c.requires.from))
+    rw (p.1) (inner_overflows (ways c.args.a (c.args.k - c.args.b)) c.args.a c.args.k (omega (arith, c.requires.from))
     (subst (λ (x : ℕ). 2 ^ 127 ≤ x) (inner_is c.args.a c.args.b c.args.k (omega (arith, c.requires.from)) c.requires.to) c.in_err-inner.ensures))
 
 pub returns : goal.returns

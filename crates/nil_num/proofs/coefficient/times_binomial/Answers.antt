@@ -1,7 +1,7 @@
 use Rattle.std.proofs.Common.{arith, ◌+◌, ◌*◌, ◌/◌, ◌^◌, ◌≤◌, ℕ, ap, ◌∙◌, subst}
 use Rattle.std.proofs.lemmas.Result.{err_from_is_err_and}
-use Rattle.whole.proofs.Binomial.{ways_none}
-use Rattle.nil_num.proofs.Coefficients.{diagonal_step, diagonal_passes}
+use Rattle.integer.proofs.Binomial.{ways_none}
+use Rattle.nil_num.proofs.Coefficients.{diagonal_step, diagonal_overflows}
 use Rattle.nil_num.proofs.coefficient.times_binomial.Goals as goal
 
 pub loop-j-init : goal.loop-j-init
@@ -12,7 +12,7 @@ returns-in_err-product c =
     let p = err_from_is_err_and c.from_residual.result c.from_residual.ensures.1 in
     let n = c.args.n in
     let j = c.loop-j.j in
-    rw (p.1) (diagonal_passes c.args.start n (j + 1) c.args.m (omega (arith, c.loop-j-test.true))
+    rw (p.1) (diagonal_overflows c.args.start n (j + 1) c.args.m (omega (arith, c.loop-j-test.true))
     (subst (λ (x : ℕ). 2 ^ 127 ≤ x) (ap (λ (x : ℕ). x * (n + j + 1) / (j + 1)) c.loop-j.invariant.0 ∙ diagonal_step c.args.start n j) c.in_err-product.ensures))
 
 pub loop-j-preserved : goal.loop-j-preserved

@@ -1,5 +1,5 @@
 use Rattle.std.proofs.Common.{◌≡◌, ◌+◌, ◌*◌, ◌^◌, ◌<◌}
-use Rattle.whole.specs.Binomial.{ways}
+use Rattle.integer.specs.Binomial.{ways}
 use Rattle.nil_num.proofs.coefficient.times_binomial.Given as goal
 
 abbrev pub invariant-loop-j : goal.invariant-loop-j

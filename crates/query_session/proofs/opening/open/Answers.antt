@@ -23,7 +23,7 @@ pub returns-in-Err-Long-clause-refused : goal.returns-in-Err-Long-clause-refused
 returns-in-Err-Long-clause-refused g c =
     HasRefused-any _ _
     (λ file. inr (shelf_long c.in-Some.name.now (sym c.in-Some.ensures)
-    (c.in-Err-Long.ensures.causes.long (cc)) (c.in-Err-Long.ensures.told_long (cc))))
+    (c.in-Err-Long.ensures.causes.long (cc)) (c.in-Err-Long.ensures.known_long (cc))))
 
 pub returns-in-Err-Memory-clause-refused : goal.returns-in-Err-Memory-clause-refused
 returns-in-Err-Memory-clause-refused g c = HasRefused-any _ _ (λ file. inl refl)

@@ -1,7 +1,7 @@
 use Rattle.hall_table.proofs.Multiplied.{rows_hold, sum_named, product_written, values_written}
 use Rattle.hall_table.proofs.table.Table.multiply_into.Goals as goal
 
--- the rows passed nowhere, and hold the two vectors
+-- the rows overflowed nowhere, and hold the two vectors
 pub returns-in-Err-put_sums-clause-product : goal.returns-in-Err-put_sums-clause-product
 returns-in-Err-put_sums-clause-product c =
     sum_named c.args.self.now c.args.a.now c.args.b.now c.put_y.new.rows c.in-Err-put_sums.at c.last-last.ensures.form

@@ -8,7 +8,7 @@ use Rattle.hall_table.proofs.Following.{entry_read, put_named, put_more, all_put
 use Rattle.hall_table.proofs.Putting.{value-other}
 use Rattle.hall_table.proofs.table.Table.put_y.Goals as goal
 
--- the first row that passes is named
+-- the first row that overflows is named
 pub returns-in-Err-clause-first : goal.returns-in-Err-clause-first
 returns-in-Err-clause-first c =
     let g : FitsSigned w128 c.at.result = search rules in

@@ -2,7 +2,7 @@ use Rattle.std.proofs.Common.{refl}
 use Rattle.std.specs.Int.{w128}
 use Rattle.std.proofs.lemmas.Int.{to_z-of_z}
 use Rattle.hall_table.proofs.Covering.{x_positive}
-use Rattle.hall_table.proofs.Orders.{put_fits, put_passes}
+use Rattle.hall_table.proofs.Orders.{put_fits, put_overflows}
 use Rattle.hall_table.proofs.Putting.{HasRows-with_value}
 use Rattle.hall_table.proofs.table.Table.set_x.Goals as goal
 
@@ -18,7 +18,7 @@ returns-in-Ok-clause-rows c =
 
 pub returns-in-Err-clause-wide : goal.returns-in-Err-clause-wide
 returns-in-Err-clause-wide c =
-    (refl, put_passes c.args.x _ _ _ (to_z-of_z w128 c.args.x c.ranges.x) (c.requires.rows.width c.args.k) c.in-Err.ensures.wide)
+    (refl, put_overflows c.args.x _ _ _ (to_z-of_z w128 c.args.x c.ranges.x) (c.requires.rows.width c.args.k) c.in-Err.ensures.wide)
 
 pub returns-in-Err-clause-rows : goal.returns-in-Err-clause-rows
 returns-in-Err-clause-rows c =
