@@ -28,7 +28,7 @@ impl Model for SureShelf {
 impl Shelf for SureShelf {
     ghost use Rattle.std.specs.Prelude.{◌≡◌, ℕ, ◌<◌, ◌≤◌, List, Some, length, vec_len, IfOk, IfSome, IfNone, IsErrOf, IsOkUnless};
     ghost use Rattle.nil_io.specs.Causes.{ShelfCauses};
-    ghost use Rattle.nil_io.specs.Files.{contents_of_or_empty};
+    ghost use Rattle.nil_io.specs.Files.{contents_or_empty};
     ghost use Rattle.nil_io.specs.Memory.{fault_within};
 
     ghost contents = { λ s n. Some (contents_or_empty s.files n) };
