@@ -9,7 +9,7 @@ use Rattle.nil_word.specs.declared.letter.Letter.{Letter}
 use Rattle.nil_word.specs.Words.{up, down, power}
 use Rattle.nil_word.specs.Exponents.{numbers}
 use Rattle.nil_word.specs.Central.{IsCentralBy}
-use Rattle.hall_law.specs.Plan.{word_of}
+use Rattle.nil_word.specs.Factors.{word_of}
 use Rattle.nil_pres.specs.declared.syllable.Syllable.{Syllable}
 use Rattle.nil_pres.specs.Presented.{Presented, right_side}
 use Rattle.nil_pres.specs.Relations.{factors_of, is_pair, between, relations_of}

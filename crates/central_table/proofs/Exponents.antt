@@ -8,7 +8,7 @@ use Rattle.std.proofs.lemmas.Bool.Decides.{eqb_tells}
 use Rattle.nil_word.specs.declared.letter.Letter.{Letter}
 use Rattle.nil_word.specs.Words.{power}
 use Rattle.nil_word.specs.Exponents.{one_at, count}
-use Rattle.hall_law.specs.Plan.{word_of}
+use Rattle.nil_word.specs.Factors.{word_of}
 use Rattle.nil_pres.specs.declared.syllable.Syllable.{Syllable}
 use Rattle.nil_pres.specs.Rights.{IsRight}
 use Rattle.nil_pres.specs.Presented.{Presented, IsPresented, right_side}

@@ -5,7 +5,7 @@
 --   relations_of p       as many generators as names, and the words of the right sides
 use Rattle.std.specs.Prelude.{ℕ, Bool, nat_le, nat_lt, ◌&&◌, List, [], length, map, if◌then◌else◌}
 use Rattle.nil_word.specs.Congruence.{Relations}
-use Rattle.hall_law.specs.Plan.{Factor, word_of}
+use Rattle.nil_word.specs.Factors.{Factor, word_of}
 use Rattle.nil_pres.specs.declared.syllable.Syllable.{Syllable}
 use Rattle.nil_pres.specs.Presented.{Presented, right_side}
 

@@ -1,7 +1,7 @@
 -- The right sides of a presentation are ascending factors above their pair.
 use Rattle.std.proofs.Common.{◌≡◌, ℕ, ◌<◌, ◌≤◌, Bool, true, nat_le, nat_lt, ◌&&◌, if◌then◌else◌, List, [], ◌∷◌, length, sym, ◌∙◌, ap, subst}
 use Rattle.std.proofs.lemmas.Bool.{le-leb, lt-ltb}
-use Rattle.hall_law.specs.Plan.{IsAscending}
+use Rattle.nil_word.specs.Factors.{IsAscending}
 use Rattle.nil_pres.specs.declared.syllable.Syllable.{Syllable}
 use Rattle.nil_pres.specs.Rights.{IsRight}
 use Rattle.nil_pres.specs.Presented.{Presented, IsPresented, right_side}
