@@ -9,9 +9,9 @@ use Rattle.nil_word.specs.declared.letter.Letter.{Letter}
 use Rattle.nil_word.specs.Words.{up, down, power}
 use Rattle.nil_word.specs.Exponents.{numbers}
 use Rattle.nil_word.specs.Central.{IsCentralBy}
-use Rattle.hall_law.specs.Plan.{word_of}
+use Rattle.nil_word.specs.Factors.{word_of}
 use Rattle.nil_pres.specs.declared.syllable.Syllable.{Syllable}
-use Rattle.nil_pres.specs.Presented.{Presented, right_side}
+use Rattle.nil_pres.specs.Presented.{Presented, right_of}
 use Rattle.nil_pres.specs.Relations.{factors_of, is_pair, between, relations_of}
 use Rattle.central_table.specs.Central.{row, commute, is_central, are_central, first_bad, not_central}
 use Rattle.central_table.proofs.FirstBad.{first_bad-parts}
@@ -45,14 +45,14 @@ none_after false x rest h = cc
 
 row_central : (p : Presented) (j d low k : ℕ)
     → first_bad p (map (λ i. (i, j)) (numbers low d)) ≡ None
-    → low ≤ k → k < low + d → are_central p (right_side p j k) ≡ true
+    → low ≤ k → k < low + d → are_central p (right_of p k j) ≡ true
 row_central p j zero low k h a b = absurd (omega arith)
 row_central p j (suc d) low k h a b =
     let parts =
-    none_after (are_central p (right_side p j low)) (low, j)
+    none_after (are_central p (right_of p low j)) (low, j)
     (first_bad p (map (λ i. (i, j)) (numbers (suc low) d))) h in
-    elim (eq-or-lt_of_le a) as (λ _. are_central p (right_side p j k) ≡ true) [
-      | inl same ↦ ap (λ (i : ℕ). are_central p (right_side p j i)) (sym same) ∙ parts.0
+    elim (eq-or-lt_of_le a) as (λ _. are_central p (right_of p k j) ≡ true) [
+      | inl same ↦ ap (λ (i : ℕ). are_central p (right_of p i j)) (sym same) ∙ parts.0
       | inr less ↦ row_central p j d (suc low) k parts.1 less (omega arith)
     ]
 
@@ -97,40 +97,40 @@ no_syllable (s ∷ rest) h =
       | inr other ↦ let no = other.0 in cc
     ]
 
-commute_above : (p : Presented) (m l : ℕ) → m < l → commute p m l ≡ true → right_side p l m ≡ []
+commute_above : (p : Presented) (m l : ℕ) → m < l → commute p m l ≡ true → right_of p m l ≡ []
 commute_above p m l a h =
-    no_syllable (right_side p l m)
+    no_syllable (right_of p m l)
     (sym
-    (ap (λ (b : Bool). if b then length (right_side p l m) == 0
-    else (if nat_lt l m then length (right_side p m l) == 0 else true)) (lt-ltb m l a)) ∙ h)
+    (ap (λ (b : Bool). if b then length (right_of p m l) == 0
+    else (if nat_lt l m then length (right_of p l m) == 0 else true)) (lt-ltb m l a)) ∙ h)
 
-commute_below : (p : Presented) (m l : ℕ) → l < m → commute p m l ≡ true → right_side p m l ≡ []
+commute_below : (p : Presented) (m l : ℕ) → l < m → commute p m l ≡ true → right_of p l m ≡ []
 commute_below p m l a h =
-    no_syllable (right_side p m l)
-    (sym (ap (λ (b : Bool). if b then length (right_side p l m) == 0
-    else (if nat_lt l m then length (right_side p m l) == 0 else true))
+    no_syllable (right_of p l m)
+    (sym (ap (λ (b : Bool). if b then length (right_of p m l) == 0
+    else (if nat_lt l m then length (right_of p l m) == 0 else true))
     (lt-leb (suc m) l (omega arith))
-    ∙ ap (λ (b : Bool). if b then length (right_side p m l) == 0 else true) (lt-ltb l m a)) ∙ h)
+    ∙ ap (λ (b : Bool). if b then length (right_of p l m) == 0 else true) (lt-ltb l m a)) ∙ h)
 
 -- a right side that is empty, or of no pair
-empty_between : (p : Presented) (j l : ℕ) → (is_pair p j l ≡ true → right_side p l j ≡ [])
+empty_between : (p : Presented) (j l : ℕ) → (is_pair p j l ≡ true → right_of p j l ≡ [])
     → word_of (between p j l) ≡ []
 empty_between p j l h = at (is_pair p j l) h
   where
-    at : (b : Bool) → (b ≡ true → right_side p l j ≡ [])
-        → word_of (if b then factors_of (right_side p l j) else []) ≡ []
+    at : (b : Bool) → (b ≡ true → right_of p j l ≡ [])
+        → word_of (if b then factors_of (right_of p j l) else []) ≡ []
     at true h = ap (λ (r : List Syllable). word_of (factors_of r)) (h refl)
     at false h = refl
 
 picked_between : (p : Presented) (test : ℕ → Bool) (j l : ℕ)
-    → (is_pair p j l ≡ true → list_all (λ s. test s.number) (right_side p l j) ≡ true)
+    → (is_pair p j l ≡ true → list_all (λ s. test s.number) (right_of p j l) ≡ true)
     → All (λ (x : Letter). test x.number ≡ true) (word_of (between p j l))
 picked_between p test j l h = at (is_pair p j l) h
   where
-    at : (b : Bool) → (b ≡ true → list_all (λ s. test s.number) (right_side p l j) ≡ true)
+    at : (b : Bool) → (b ≡ true → list_all (λ s. test s.number) (right_of p j l) ≡ true)
         → All (λ (x : Letter). test x.number ≡ true)
-        (word_of (if b then factors_of (right_side p l j) else []))
-    at true h = all_letters test (right_side p l j) (h refl)
+        (word_of (if b then factors_of (right_of p j l) else []))
+    at true h = all_letters test (right_of p j l) (h refl)
     at false h = All-nil (λ (x : Letter). test x.number ≡ true)
 
 pub central_by : (p : Presented) → not_central p ≡ None

@@ -8,7 +8,7 @@ use Rattle.std.proofs.lemmas.List.Elements.{All-nil, All-cons, All-append}
 use Rattle.std.specs.Ordering.{int_eq}
 use Rattle.std.specs.Cmp.{signed_Decides}
 use Rattle.std.specs.declared.cmp.Ordering.TheVariants.{Less}
-use Rattle.nil_pres.specs.Presented.{Presented, IsPresented, right_side}
+use Rattle.nil_pres.specs.Presented.{Presented, IsPresented, right_of}
 use Rattle.binom_poly.specs.declared.part.Part.{Part}
 use Rattle.binom_poly.specs.declared.term.Term.{Term}
 use Rattle.binom_poly.specs.Monomial.{IsMonomial, IsMonomialAbove, IsVariable, monomial_cmp}
@@ -46,14 +46,14 @@ not_zero : (c : ℤ) → int_eq c (pos 0) ≡ false → c ≢ pos 0
 not_zero c h e = false≢true (sym h ∙ (signed_Decides c (pos 0)).1 e)
 
 module _ (p : Presented) (h : IsPresented p) (k : ℕ) where
-  IsTerm-crossed : (q : ℕ × ℕ) → IsPair q → exponent k (right_side p q.1 q.0) ≢ pos 0
-      → IsTerm (contribution (crossed q) (exponent k (right_side p q.1 q.0)))
+  IsTerm-crossed : (q : ℕ × ℕ) → IsPair q → exponent k (right_of p q.0 q.1) ≢ pos 0
+      → IsTerm (contribution (crossed q) (exponent k (right_of p q.0 q.1)))
   IsTerm-crossed q pair some = record {
     monomial = IsMonomial-crossed q pair;
     not_zero = some;
     within =
-        exponent-within q.1 (length p.names) (right_side p q.1 q.0) k
-        (h.lawful q.1 q.0 pair.0 pair.1);
+        exponent-within q.1 (length p.names) (right_of p q.0 q.1) k
+        (h.lawful q.0 q.1 pair.0 pair.1);
   }
 
   -- a term before the terms of all higher pairs
@@ -63,7 +63,7 @@ module _ (p : Presented) (h : IsPresented p) (k : ℕ) where
   unfolding IsPolynomialFrom
   terms_from t b [] f before a = f
   terms_from t b (q ∷ qs) f before a =
-      let c = exponent k (right_side p q.1 q.0) in
+      let c = exponent k (right_of p q.0 q.1) in
       elim (int_eq c (pos 0)) as (λ e. int_eq c (pos 0) ≡ e
       → IsPolynomialFrom t
       (cond e [] (contribution (crossed q) c ∷ []) ++ flat_map (cross_terms p k) qs)) [
@@ -90,12 +90,12 @@ module _ (p : Presented) (h : IsPresented p) (k : ℕ) where
 
   -- ---- the shape
   -- a right side's generators are above its pair
-  pair_below : (q : ℕ × ℕ) → IsPair q → exponent k (right_side p q.1 q.0) ≢ pos 0 → q.1 < k
+  pair_below : (q : ℕ × ℕ) → IsPair q → exponent k (right_of p q.0 q.1) ≢ pos 0 → q.1 < k
   pair_below q pair some =
       elim (cases_lt q.1 k) [
         | inl less ↦ less
-        | inr most ↦ absurd (some (exponent-low q.1 (length p.names) (right_side p q.1 q.0) k
-            (h.lawful q.1 q.0 pair.0 pair.1) most))
+        | inr most ↦ absurd (some (exponent-low q.1 (length p.names) (right_of p q.0 q.1) k
+            (h.lawful q.0 q.1 pair.0 pair.1) most))
       ]
 
   abbrev IsAllowed : Term → Type 0
@@ -113,7 +113,7 @@ module _ (p : Presented) (h : IsPresented p) (k : ℕ) where
 
   cross_allowed : (q : ℕ × ℕ) → IsPair q → All IsAllowed (cross_terms p k q)
   cross_allowed q pair =
-      let c = exponent k (right_side p q.1 q.0) in
+      let c = exponent k (right_of p q.0 q.1) in
       elim (int_eq c (pos 0)) as (λ e. int_eq c (pos 0) ≡ e
       → All IsAllowed (cond e [] (contribution (crossed q) c ∷ []))) [
         | true ↦ λ e. All-nil IsAllowed

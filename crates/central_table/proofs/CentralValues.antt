@@ -7,7 +7,7 @@ use Rattle.integer.proofs.Ring.{reads, ring_by}
 use Rattle.integer.proofs.Sums.{sum_from-same}
 use Rattle.nil_word.specs.Exponents.{entry, numbers, count}
 use Rattle.hall_law.specs.Quadratic.{cross_term, quadratic_entry, quadratic}
-use Rattle.nil_pres.specs.Presented.{Presented, IsPresented, right_side}
+use Rattle.nil_pres.specs.Presented.{Presented, IsPresented, right_of}
 use Rattle.nil_pres.specs.Relations.{relations_of}
 use Rattle.binom_poly.specs.Polynomial.{value_of}
 use Rattle.hall_table.specs.Shape.{y_of}
@@ -15,7 +15,7 @@ use Rattle.hall_table.specs.Tabled.{poly_at}
 use Rattle.hall_table.specs.Values.{point_of, values}
 use Rattle.central_table.specs.Central.{exponent, central_poly, central_table}
 use Rattle.central_table.proofs.CentralPolys.{poly_at-central_table, last_of-central_table}
-use Rattle.central_table.proofs.Exponents.{count-right_side}
+use Rattle.central_table.proofs.Exponents.{exponent-right_of}
 use Rattle.central_table.proofs.CrossSums.{by_second, by_first, by_second-first}
 use Rattle.central_table.proofs.CrossTerms.{cross, value-central_poly}
 
@@ -35,10 +35,10 @@ cross-term : (p : Presented) (x y : List ℤ) (k i j : ℕ) → IsPresented p �
     → j ≤ length p.names
     → cross (point_of x y) p k i j ≡ cross_term (relations_of p) x y k i j
 cross-term p x y k i j h a b d =
-    ap (λ z. exponent k (right_side p j i) *ℤ (z *ℤ point_of x y (y_of i)))
+    ap (λ z. exponent k (right_of p i j) *ℤ (z *ℤ point_of x y (y_of i)))
     (point-x x y j (omega (arith, h.names.few)))
-    ∙ ap (λ z. exponent k (right_side p j i) *ℤ (entry x j *ℤ z)) (point-y x y i)
-    ∙ ap (λ z. z *ℤ (entry x j *ℤ entry y i)) (count-right_side p k i j h a b d)
+    ∙ ap (λ z. exponent k (right_of p i j) *ℤ (entry x j *ℤ z)) (point-y x y i)
+    ∙ ap (λ z. z *ℤ (entry x j *ℤ entry y i)) (exponent-right_of p k i j h a b d)
     ∙ ring_by (count ((relations_of p).right i j) k ∷ entry x j ∷ entry y i ∷ [])
     (search reads depth 20) (search reads depth 20) tt
 

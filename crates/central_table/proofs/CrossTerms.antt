@@ -12,7 +12,7 @@ use Rattle.integer.specs.Sums.{sum_from}
 use Rattle.integer.proofs.Binomial.{absorb, choose_none}
 use Rattle.integer.proofs.Ring.{reads, ring_by}
 use Rattle.nil_word.specs.Exponents.{numbers}
-use Rattle.nil_pres.specs.Presented.{Presented, right_side}
+use Rattle.nil_pres.specs.Presented.{Presented, right_of}
 use Rattle.binom_poly.specs.declared.part.Part.{Part}
 use Rattle.binom_poly.specs.Polynomial.{monomial_value, value_of}
 use Rattle.binom_poly.specs.Collected.{with_term}
@@ -54,15 +54,15 @@ monomial_value-crossed a q =
 
 value-cross_terms : (a : ℕ → ℤ) (p : Presented) (k : ℕ) (q : ℕ × ℕ)
     → value_of a (cross_terms p k q)
-    ≡ exponent k (right_side p q.1 q.0) *ℤ (a q.1 *ℤ a (y_of q.0))
+    ≡ exponent k (right_of p q.0 q.1) *ℤ (a q.1 *ℤ a (y_of q.0))
 value-cross_terms a p k q =
-    value-with_term a (crossed q) (exponent k (right_side p q.1 q.0))
-    ∙ ap (λ z. exponent k (right_side p q.1 q.0) *ℤ z) (monomial_value-crossed a q)
+    value-with_term a (crossed q) (exponent k (right_of p q.0 q.1))
+    ∙ ap (λ z. exponent k (right_of p q.0 q.1) *ℤ z) (monomial_value-crossed a q)
 
 module _ (a : ℕ → ℤ) (p : Presented) (k : ℕ) where
   -- the value of the term of a pair
   abbrev pub cross : ℕ → ℕ → ℤ
-  cross i j = exponent k (right_side p j i) *ℤ (a j *ℤ a (y_of i))
+  cross i j = exponent k (right_of p i j) *ℤ (a j *ℤ a (y_of i))
 
   value-row : (j d low : ℕ)
       → value_of a (flat_map (cross_terms p k) (map (λ i. (i, j)) (numbers low d)))

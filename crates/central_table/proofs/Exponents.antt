@@ -8,10 +8,10 @@ use Rattle.std.proofs.lemmas.Bool.Decides.{eqb_tells}
 use Rattle.nil_word.specs.declared.letter.Letter.{Letter}
 use Rattle.nil_word.specs.Words.{power}
 use Rattle.nil_word.specs.Exponents.{one_at, count}
-use Rattle.hall_law.specs.Plan.{word_of}
+use Rattle.nil_word.specs.Factors.{word_of}
 use Rattle.nil_pres.specs.declared.syllable.Syllable.{Syllable}
 use Rattle.nil_pres.specs.Rights.{IsRight}
-use Rattle.nil_pres.specs.Presented.{Presented, IsPresented, right_side}
+use Rattle.nil_pres.specs.Presented.{Presented, IsPresented, right_of}
 use Rattle.nil_pres.specs.Relations.{factors_of, is_pair, relations_of}
 use Rattle.central_table.specs.Central.{exponent}
 
@@ -85,13 +85,13 @@ count-right low high (s ∷ rest) m h =
           omega (arith, ints, joined, is, first, count-right s.number high rest m h.4)
     ]
 
-pub count-right_side : (p : Presented) (k i j : ℕ) → IsPresented p → 1 ≤ i → i < j
-    → j ≤ length p.names → exponent k (right_side p j i) ≡ count ((relations_of p).right i j) k
-count-right_side p k i j h a b d =
+pub exponent-right_of : (p : Presented) (k i j : ℕ) → IsPresented p → 1 ≤ i → i < j
+    → j ≤ length p.names → exponent k (right_of p i j) ≡ count ((relations_of p).right i j) k
+exponent-right_of p k i j h a b d =
     let pair : is_pair p i j ≡ true =
     grind (arith, le-leb 1 i a, lt-ltb i j b, le-leb j (length p.names) d) in
-    sym (ap (λ (t : Bool). count (word_of (if t then factors_of (right_side p j i) else [])) k) pair
-    ∙ count-right j (length p.names) (right_side p j i) k (h.lawful j i a b))
+    sym (ap (λ (t : Bool). count (word_of (if t then factors_of (right_of p i j) else [])) k) pair
+    ∙ count-right j (length p.names) (right_of p i j) k (h.lawful i j a b))
 
 -- ---- its range
 pub exponent-low : (low high : ℕ) (right : List Syllable) (m : ℕ) → IsRight low high right → m ≤ low

@@ -1,7 +1,7 @@
 -- The first pair outside the central form.
 use Rattle.std.proofs.Common.{◌≡◌, ℕ, ◌+◌, ◌-◌, ◌<◌, Bool, true, false, if◌then◌else◌, List, [], ◌∷◌, ◌++◌, map, flat_map, Option, Some, None, refl, sym, ◌∙◌, ap}
 use Rattle.nil_word.specs.Exponents.{numbers}
-use Rattle.nil_pres.specs.Presented.{Presented, right_side}
+use Rattle.nil_pres.specs.Presented.{Presented, right_of}
 use Rattle.central_table.specs.Central.{row, are_central, first_bad}
 use Rattle.central_table.proofs.Numbers.{numbers_next}
 
@@ -15,7 +15,7 @@ first_bad-append : (p : Presented) (xs ys : List (ℕ × ℕ))
 unfolding or_else
 first_bad-append p [] ys = refl
 first_bad-append p (x ∷ xs) ys =
-    at (are_central p (right_side p x.1 x.0)) (first_bad-append p xs ys)
+    at (are_central p (right_of p x.0 x.1)) (first_bad-append p xs ys)
   where
     at : (b : Bool) → first_bad p (xs ++ ys) ≡ or_else (first_bad p xs) (first_bad p ys)
         → (if b then first_bad p (xs ++ ys) else Some x)
@@ -48,7 +48,7 @@ first_bad-parts p xs ys h =
 
 -- the pairs of a row from low on, where the first of them is central
 pub first_bad-row : (p : Presented) (j low : ℕ) → low < j
-    → are_central p (right_side p j low) ≡ true
+    → are_central p (right_of p low j) ≡ true
     → first_bad p (map (λ i. (i, j)) (numbers low (j - low)))
     ≡ first_bad p (map (λ i. (i, j)) (numbers (low + 1) (j - (low + 1))))
 first_bad-row p j low h good =

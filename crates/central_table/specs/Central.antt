@@ -17,7 +17,7 @@ use Rattle.std.specs.Prelude.{ℕ, ◌-◌, Bool, true, ◌==◌, nat_lt, if◌t
 use Rattle.std.specs.List.{list_all}
 use Rattle.nil_word.specs.Exponents.{numbers}
 use Rattle.nil_pres.specs.declared.syllable.Syllable.{Syllable}
-use Rattle.nil_pres.specs.Presented.{Presented, right_side}
+use Rattle.nil_pres.specs.Presented.{Presented, right_of}
 use Rattle.binom_poly.specs.declared.part.Part.{Part}
 use Rattle.binom_poly.specs.declared.term.Term.{Term}
 use Rattle.binom_poly.specs.Collected.{with_term}
@@ -36,8 +36,8 @@ pairs p = flat_map row (generators p)
 
 abbrev pub commute : Presented → ℕ → ℕ → Bool
 commute p k l =
-    if nat_lt k l then length (right_side p l k) == 0
-    else (if nat_lt l k then length (right_side p k l) == 0 else true)
+    if nat_lt k l then length (right_of p k l) == 0
+    else (if nat_lt l k then length (right_of p l k) == 0 else true)
 
 abbrev pub is_central : Presented → ℕ → Bool
 is_central p k = list_all (commute p k) (generators p)
@@ -48,7 +48,7 @@ are_central p right = list_all (λ s. is_central p s.number) right
 abbrev pub first_bad : Presented → List (ℕ × ℕ) → Option (ℕ × ℕ)
 first_bad p [] = None
 first_bad p (pair ∷ rest) =
-    if are_central p (right_side p pair.1 pair.0) then first_bad p rest else Some pair
+    if are_central p (right_of p pair.0 pair.1) then first_bad p rest else Some pair
 
 abbrev pub not_central : Presented → Option (ℕ × ℕ)
 not_central p = first_bad p (pairs p)
@@ -61,7 +61,7 @@ abbrev pub crossed : ℕ × ℕ → List Part
 crossed pair = record { var = pair.1; exp = 1 } ∷ record { var = y_of pair.0; exp = 1 } ∷ []
 
 abbrev pub cross_terms : Presented → ℕ → ℕ × ℕ → List Term
-cross_terms p k pair = with_term (crossed pair) (exponent k (right_side p pair.1 pair.0)) []
+cross_terms p k pair = with_term (crossed pair) (exponent k (right_of p pair.0 pair.1)) []
 
 abbrev pub central_poly : Presented → ℕ → List Term
 central_poly p k =

@@ -9,7 +9,7 @@ ghost use Rattle.nil_pres.specs.Relations.{relations_of};
 ghost use Rattle.central_table.specs.Central.{central_table, not_central};
 
 use hall_law::laws::central;
-use nil_pres::laws::relations;
+use hall_table::presentations::relations;
 
 /// The table of a presentation has the form and the generators of a table, and where the presentation
 /// is central it multiplies in it. (In a group of class 2 the commutator is bilinear.)

@@ -8,7 +8,7 @@ ghost use Rattle.group_eval.specs.Laws.{OfChecked, MultipliedIs, SolvedIs, Inver
 
 use hall_law::laws::{elements as vectors, uniqueness};
 use hall_table::laws::shaped;
-use nil_pres::laws::relations;
+use hall_table::presentations::relations;
 
 /// By a table that multiplies in its presentation, where no value overflows 128 bits, the written order
 /// of an element gives the vector of that element.

@@ -12,8 +12,8 @@ ghost use Rattle.hall_table.specs.Tabled.{Tabled, IsTabled, last_of};
 ghost use Rattle.hall_table.specs.Tail.{tail_of};
 ghost use Rattle.hall_table.specs.Values.{values};
 
+use super::presentations::relations;
 use hall_law::laws::uniqueness;
-use nil_pres::laws::relations;
 
 /// The product by a checked table stands for the two ordered words joined.
 pub fn product()

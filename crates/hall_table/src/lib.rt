@@ -5,6 +5,7 @@
 mod checked;
 pub mod laws;
 mod multiplying;
+pub mod presentations;
 mod reserving;
 mod shaping;
 mod table;

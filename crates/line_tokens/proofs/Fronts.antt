@@ -5,11 +5,11 @@ use Rattle.std.specs.Ordering.{int_eq}
 use Rattle.std.proofs.Math.Seq.{take-append_seam, drop-append_seam}
 use Rattle.std.proofs.lemmas.Bool.Decides.{nat_tests, Decides-eqb, Decides-int_eq, Decides-like, same_from_decides}
 use Rattle.std.specs.List.{list_all, prefix_len, take_while}
-use Rattle.nil_pres.specs.Presented.{is_letter, is_name_byte}
+use Rattle.std.specs.Char.{is_ascii_alphabetic}
 use Rattle.line_tokens.specs.declared.kind.Kind.{Kind}
 use Rattle.line_tokens.specs.declared.kind.Kind.TheVariants as k
 use Rattle.line_tokens.specs.declared.token.Token.{Token}
-use Rattle.line_tokens.specs.Tokens.{is_blank, is_digit, number_from, fitting, integer, single, token_at, tokens_from, kinds}
+use Rattle.line_tokens.specs.Tokens.{is_blank, is_digit, number_from, fitting, integer, single, token_at, tokens_from, kinds, is_word_byte}
 use Rattle.line_tokens.proofs.Cuts.{tokens_from-drop, token_of}
 use Rattle.line_tokens.proofs.Decimals.{decimal-digits}
 use Rattle.line_tokens.proofs.Runs.{letter_token, digit_token}
@@ -64,20 +64,20 @@ take_while-run p xs rest h e = ap (λ n. take n (xs ++ rest)) (prefix_len-run p 
 drop-run : (p : ℕ → Bool) (xs rest : List ℕ) → list_all p xs ≡ true → prefix_len p rest ≡ 0 → drop (prefix_len p (xs ++ rest)) (xs ++ rest) ≡ rest
 drop-run p xs rest h e = ap (λ n. drop n (xs ++ rest)) (prefix_len-run p xs rest h e) ∙ drop-append_seam xs rest
 
-letter_sticks : (b : ℕ) → is_letter b ≡ true → is_blank b ≡ false
+letter_sticks : (b : ℕ) → is_ascii_alphabetic b ≡ true → is_blank b ≡ false
 letter_sticks b h = grind (arith, nat_tests)
 
-digit_sticks : (b : ℕ) → is_digit b ≡ true → (is_blank b ≡ false) × (is_letter b ≡ false)
+digit_sticks : (b : ℕ) → is_digit b ≡ true → (is_blank b ≡ false) × (is_ascii_alphabetic b ≡ false)
 digit_sticks b h = (grind (arith, nat_tests), grind (arith, nat_tests))
 
--- a word, where no name byte stands behind it
-pub kinds-word : (word : List ℕ → Kind) (b : ℕ) (bs rest : List ℕ) → is_letter b ≡ true → list_all is_name_byte bs ≡ true → prefix_len is_name_byte rest ≡ 0
+-- a word, where no word byte stands behind it
+pub kinds-word : (word : List ℕ → Kind) (b : ℕ) (bs rest : List ℕ) → is_ascii_alphabetic b ≡ true → list_all is_word_byte bs ≡ true → prefix_len is_word_byte rest ≡ 0
     → kinds word (b ∷ bs ++ rest) ≡ word (b ∷ bs) ∷ kinds word rest
 kinds-word word b bs rest l h e =
     kinds-token word b (bs ++ rest) (letter_sticks b l)
     ∙ ap (λ t. t.0 ∷ kinds word (drop t.1 (bs ++ rest))) (letter_token word b (bs ++ rest) l)
-    ∙ ap (λ w. word (b ∷ w) ∷ kinds word (drop (prefix_len is_name_byte (bs ++ rest)) (bs ++ rest))) (take_while-run is_name_byte bs rest h e)
-    ∙ ap (λ r. word (b ∷ bs) ∷ kinds word r) (drop-run is_name_byte bs rest h e)
+    ∙ ap (λ w. word (b ∷ w) ∷ kinds word (drop (prefix_len is_word_byte (bs ++ rest)) (bs ++ rest))) (take_while-run is_word_byte bs rest h e)
+    ∙ ap (λ r. word (b ∷ bs) ∷ kinds word r) (drop-run is_word_byte bs rest h e)
 
 -- digits, where no digit stands behind them
 kinds-digits : (word : List ℕ → Kind) (bs rest : List ℕ) → 1 ≤ length bs → list_all is_digit bs ≡ true → prefix_len is_digit rest ≡ 0
@@ -103,11 +103,11 @@ kinds-minus word bs rest l h e =
     ∙ ap (λ w. integer true w ∷ kinds word (drop (prefix_len is_digit (bs ++ rest)) (bs ++ rest))) (take_while-run is_digit bs rest h e)
     ∙ ap (λ r. integer true bs ∷ kinds word r) (drop-run is_digit bs rest h e)
 
-single_token : (word : List ℕ → Kind) (b : ℕ) (bs : List ℕ) → is_letter b ≡ false → is_digit b ≡ false → (b == 45) ≡ false → token_at word b bs ≡ (single b, 0)
+single_token : (word : List ℕ → Kind) (b : ℕ) (bs : List ℕ) → is_ascii_alphabetic b ≡ false → is_digit b ≡ false → (b == 45) ≡ false → token_at word b bs ≡ (single b, 0)
 single_token word b bs l d m = rw (l, d, m) refl
 
 -- a byte that is a token by itself
-pub kinds-single : (word : List ℕ → Kind) (b : ℕ) (bs : List ℕ) → is_blank b ≡ false → is_letter b ≡ false → is_digit b ≡ false → (b == 45) ≡ false
+pub kinds-single : (word : List ℕ → Kind) (b : ℕ) (bs : List ℕ) → is_blank b ≡ false → is_ascii_alphabetic b ≡ false → is_digit b ≡ false → (b == 45) ≡ false
     → kinds word (b ∷ bs) ≡ single b ∷ kinds word bs
 kinds-single word b bs s l d m = kinds-token word b bs s ∙ ap (λ t. t.0 ∷ kinds word (drop t.1 bs)) (single_token word b bs l d m)
 

@@ -4,7 +4,7 @@ ghost use Rattle.std.specs.Prelude.{◌≡◌, ◌<◌, length, drop, slice_inde
 ghost use Rattle.std.specs.Str.{IsAscii};
 ghost use Rattle.line_tokens.specs.Tokens.{single, token_at, tokens};
 
-use super::bytes::{blank, digit, digits_len, letter, name_len};
+use super::bytes::{blank, digit, digits_len, word_len};
 use super::integers::integer_kind;
 use super::kind::Kind;
 use super::token::Token;
@@ -50,8 +50,8 @@ fn token_of<V: Vocabulary>(vocabulary: &V, bytes: &[u8]) -> (Kind, usize)
 {
     let byte = bytes[0];
     let (_, rest) = bytes.split_at(1);
-    if letter(byte) {
-        let len = name_len(rest);
+    if byte.is_ascii_alphabetic() {
+        let len = word_len(rest);
         return (word_kind(vocabulary, &bytes[..len + 1]), len);
     }
     let len = digits_len(rest);

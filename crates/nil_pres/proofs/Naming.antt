@@ -110,14 +110,14 @@ IsDraft-with_name d name h none = record {
             ap length (get_or-append_right d.rights (empty d ∷ []) (length d.rights) k [] refl above)
             ∙ (ap (λ (m : ℕ). length (get_or (empty d ∷ []) m [])) zero_is ∙ (length-replicate {A = Option (List Syllable)} (length d.names) None ∙ omega (arith, h.rows)))
       ];
-  lawful = λ j i first below.
+  lawful = λ i j first below.
       let more : length d.names ≤ length (d.names ++ name ∷ []) = omega (arith, length-append d.names (name ∷ [])) in
-      elim (cases_lt (j - 1) (length d.rights)) as (λ _. IfSome (added (with_name d name) j i) (IsRight j (length (d.names ++ name ∷ [])))) [
+      elim (cases_lt (j - 1) (length d.rights)) as (λ _. IfSome (added (with_name d name) i j) (IsRight j (length (d.names ++ name ∷ [])))) [
         | inl old ↦
-            let same : added (with_name d name) j i ≡ added d j i = ap (λ (row : List (Option (List Syllable))). get_or row (i - 1) None) (get_or_append_left d.rights (empty d ∷ []) [] (j - 1) old) in
-            subst (λ (o : Option (List Syllable)). IfSome o (IsRight j (length (d.names ++ name ∷ [])))) (sym same) (higher j more (added d j i) (h.lawful j i first below))
+            let same : added (with_name d name) i j ≡ added d i j = ap (λ (row : List (Option (List Syllable))). get_or row (i - 1) None) (get_or_append_left d.rights (empty d ∷ []) [] (j - 1) old) in
+            subst (λ (o : Option (List Syllable)). IfSome o (IsRight j (length (d.names ++ name ∷ [])))) (sym same) (higher j more (added d i j) (h.lawful i j first below))
         | inr new ↦
-            let none_is : added (with_name d name) j i ≡ None =
+            let none_is : added (with_name d name) i j ≡ None =
             ap (λ (row : List (Option (List Syllable))). get_or row (i - 1) None) (get_or-append_right d.rights (empty d ∷ []) (length d.rights) (j - 1) [] refl new) ∙ none_added (length d.names) (j - 1 - length d.rights) (i - 1) in
             subst (λ (o : Option (List Syllable)). IfSome o (IsRight j (length (d.names ++ name ∷ [])))) (sym none_is) tt
       ];

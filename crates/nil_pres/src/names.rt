@@ -1,6 +1,6 @@
 //! Names in their order.
 
-ghost use Rattle.nil_pres.specs.Presented.{AreNames, is_name, name_fault_among, is_first_letter, is_letter, is_name_byte, reserved};
+ghost use Rattle.nil_pres.specs.Presented.{AreNames, is_name, name_fault_among, is_first_letter, is_name_byte, reserved};
 ghost use Rattle.std.specs.Prelude.{◌≡◌, ℕ, ◌+◌, ◌<◌, ◌≤◌, [], length, None, Some, OnOk, OnErr, IfOk, map, option_map, position, string_bytes, ◌++◌, ◌∷◌, false};
 ghost use Rattle.std.specs.List.{list_all, list_any};
 ghost use Rattle.std.specs.Str.{bytes_eq};
@@ -83,21 +83,15 @@ fn has_first_letter(bytes: &[u8]) -> bool
 {
     match bytes {
         [] => false,
-        [first, ..] => is_ascii_letter(*first),
+        [first, ..] => first.is_ascii_alphabetic(),
     }
-}
-
-fn is_ascii_letter(b: u8) -> bool
-    ensures { result ≡ is_letter b }
-{
-    (65 <= b && b <= 90) || (97 <= b && b <= 122)
 }
 
 /// Whether each byte may stand in a name.
 fn has_name_bytes(bytes: &[u8]) -> bool
     ensures { result ≡ list_all is_name_byte bytes.now }
 {
-    bytes.iter().all(|b| is_ascii_letter(*b) || (48 <= *b && *b <= 57) || *b == 95)
+    bytes.iter().all(|b| b.is_ascii_alphabetic() || b.is_ascii_digit() || *b == b'_')
 }
 
 /// Whether a text is a word of the query language.

@@ -4,7 +4,7 @@ use Rattle.std.specs.List.{list_all}
 use Rattle.std.proofs.lemmas.List.{map-append}
 use Rattle.std.proofs.lemmas.Bool.Decides.{nat_tests}
 use Rattle.nil_pres.specs.declared.syllable.Syllable.{Syllable}
-use Rattle.nil_pres.specs.Presented.{Presented, IsPresented, right_side, is_letter, is_name_byte}
+use Rattle.nil_pres.specs.Presented.{Presented, IsPresented, right_of, is_letter, is_name_byte}
 use Rattle.line_tokens.specs.Tokens.{is_blank}
 use Rattle.pres_text.specs.Lines.{Line, content, words}
 use Rattle.pres_text.specs.File.{Relation, IsLawful, AreRelations, none, more, IsFile}
@@ -29,7 +29,7 @@ line_text-joined names j i (s ∷ right) = refl
 pairs_text-joined : (p : Presented) (j m : ℕ) → pairs_text p j m ≡ joined (relation_texts p.names (pair_relations p j m))
 pairs_text-joined p j zero = refl
 pairs_text-joined p j (suc m) =
-    let right : List Syllable = right_side p j (suc m) in
+    let right : List Syllable = right_of p (suc m) j in
     ap (λ (t : List ℕ). t ++ line_text p.names j (suc m) right) (pairs_text-joined p j m)
     ∙ ap (λ (t : List ℕ). joined (relation_texts p.names (pair_relations p j m)) ++ t) (line_text-joined p.names j (suc m) right)
     ∙ sym (joined_texts p.names (pair_relations p j m) (line_relations j (suc m) right))

@@ -85,11 +85,11 @@ relation_by n false false false false false x y p q r = r
 
 -- a draft has what was given
 abbrev pub AgreesOn : nil.Draft → List Spelled → Spelled → Type 0
-AgreesOn d given s = has_unknown s ≡ false → nat_le s.above s.below ≡ false → is_some (nil.added d s.above s.below) ≡ is_given given s.above s.below
+AgreesOn d given s = has_unknown s ≡ false → nat_le s.above s.below ≡ false → is_some (nil.added d s.below s.above) ≡ is_given given s.above s.below
 
 clipped_fault-relation_fault : (n : ℕ) (d : nil.Draft) (given : List Spelled) (s : Spelled) → AgreesOn d given s → clipped_fault n d (spelled_clipped s) ≡ at n (relation_fault given s)
 clipped_fault-relation_fault n d given s h =
-    relation_by n (has_unknown_number (spelled_clipped s)) (has_unknown s) (nat_le s.above s.below) (is_some (nil.added d s.above s.below)) (is_given given s.above s.below)
+    relation_by n (has_unknown_number (spelled_clipped s)) (has_unknown s) (nat_le s.above s.below) (is_some (nil.added d s.below s.above)) (is_given given s.above s.below)
     (syllable_fault 0 s.above (syllables_of s.right)) (right_fault s.above s.right) (has_unknown-clipped s) h (syllable_fault-syllables_of n 0 s.above s.right)
 
 abbrev pub AgreesOnFound : nil.Draft → List Spelled → Option Spelled → Type 0

@@ -4,7 +4,7 @@ use Rattle.std.proofs.lemmas.Bool.{cases_lt}
 use Rattle.std.proofs.lemmas.Bool.Decides.{nat_tests}
 use Rattle.nil_pres.specs.declared.syllable.Syllable.{Syllable}
 use Rattle.nil_pres.specs.Rights.{IsRight}
-use Rattle.nil_pres.specs.Presented.{Presented, IsPresented, right_side}
+use Rattle.nil_pres.specs.Presented.{Presented, IsPresented, right_of}
 use Rattle.pres_text.specs.File.{Relation, IsApart, right_given}
 use Rattle.pres_text.proofs.Joined.{Each}
 
@@ -14,7 +14,7 @@ line_relations j i (s ∷ right) = record { above = j; below = i; right = s ∷ 
 
 abbrev pub pair_relations : Presented → ℕ → ℕ → List Relation
 pair_relations p j zero = []
-pair_relations p j (suc i) = pair_relations p j i ++ line_relations j (suc i) (right_side p j (suc i))
+pair_relations p j (suc i) = pair_relations p j i ++ line_relations j (suc i) (right_of p (suc i) j)
 
 abbrev pub all_relations : Presented → ℕ → List Relation
 all_relations p zero = []
@@ -43,8 +43,8 @@ own_line n j i (s ∷ right) low order high h = (record { low = low; order = ord
 own_pairs : (p : Presented) (j m : ℕ) → IsPresented p → m < j → j ≤ length p.names → Each (IsOwn (length p.names)) (pair_relations p j m)
 own_pairs p j zero h order high = tt
 own_pairs p j (suc m) h order high =
-    Each-append (IsOwn (length p.names)) (pair_relations p j m) (line_relations j (suc m) (right_side p j (suc m))) (own_pairs p j m h (omega arith) high)
-    (own_line (length p.names) j (suc m) (right_side p j (suc m)) (omega arith) order high (h.lawful j (suc m) (omega arith) order))
+    Each-append (IsOwn (length p.names)) (pair_relations p j m) (line_relations j (suc m) (right_of p (suc m) j)) (own_pairs p j m h (omega arith) high)
+    (own_line (length p.names) j (suc m) (right_of p (suc m) j) (omega arith) order high (h.lawful (suc m) j (omega arith) order))
 
 pub own_relations : (p : Presented) (m : ℕ) → IsPresented p → m ≤ length p.names → Each (IsOwn (length p.names)) (all_relations p m)
 own_relations p zero h high = tt
@@ -68,9 +68,9 @@ just j m r h = (h.0, omega (arith, h.1))
 pair_pairs : (p : Presented) (j m : ℕ) → Each (IsOf j m) (pair_relations p j m)
 pair_pairs p j zero = tt
 pair_pairs p j (suc m) =
-    let line : List Relation = line_relations j (suc m) (right_side p j (suc m)) in
+    let line : List Relation = line_relations j (suc m) (right_of p (suc m) j) in
     Each-append (IsOf j (suc m)) (pair_relations p j m) line (Each-weaker (IsOf j m) (IsOf j (suc m)) (pair_relations p j m) (wider j m) (pair_pairs p j m))
-    (Each-weaker (λ r. (r.above ≡ j) × (r.below ≡ suc m)) (IsOf j (suc m)) line (just j (suc m)) (pair_line j (suc m) (right_side p j (suc m))))
+    (Each-weaker (λ r. (r.above ≡ j) × (r.below ≡ suc m)) (IsOf j (suc m)) line (just j (suc m)) (pair_line j (suc m) (right_of p (suc m) j)))
 
 abbrev IsUpTo : ℕ → Relation → Type 0
 IsUpTo m r = r.above ≤ m
@@ -107,8 +107,8 @@ apart_line r j i (s ∷ right) h = (h, tt)
 apart_pairs : (p : Presented) (j m : ℕ) (r : Relation) → r.above < j → IsApart r (pair_relations p j m)
 apart_pairs p j zero r h = tt
 apart_pairs p j (suc m) r h =
-    IsApart-append r (pair_relations p j m) (line_relations j (suc m) (right_side p j (suc m))) (apart_pairs p j m r h)
-    (apart_line r j (suc m) (right_side p j (suc m)) (λ e f. omega arith))
+    IsApart-append r (pair_relations p j m) (line_relations j (suc m) (right_of p (suc m) j)) (apart_pairs p j m r h)
+    (apart_line r j (suc m) (right_of p (suc m) j) (λ e f. omega arith))
 
 line_apart : (j i : ℕ) (right : List Syllable) → AreApart (line_relations j i right)
 line_apart j i [] = tt
@@ -117,7 +117,7 @@ line_apart j i (s ∷ right) = (tt, tt)
 pairs_apart : (p : Presented) (j m : ℕ) → AreApart (pair_relations p j m)
 pairs_apart p j zero = tt
 pairs_apart p j (suc m) =
-    let right : List Syllable = right_side p j (suc m) in
+    let right : List Syllable = right_of p (suc m) j in
     AreApart-append (pair_relations p j m) (line_relations j (suc m) right) (pairs_apart p j m) (line_apart j (suc m) right)
     (Each-weaker (IsOf j m) (λ r. IsApart r (line_relations j (suc m) right)) (pair_relations p j m)
     (λ r h. apart_line r j (suc m) right (λ e f. omega (arith, h.1))) (pair_pairs p j m))
@@ -161,36 +161,36 @@ other_above a b j i h = grind (arith, nat_tests)
 other_below : (a b j i : ℕ) → (b ≡ i → ⊥) → ((a == j) && (b == i)) ≡ false
 other_below a b j i h = grind (arith, nat_tests)
 
-last_pair : (p : Presented) (j m : ℕ) → right_given (pair_relations p j (suc m)) j (suc m) ≡ right_side p j (suc m)
+last_pair : (p : Presented) (j m : ℕ) → right_given (pair_relations p j (suc m)) j (suc m) ≡ right_of p (suc m) j
 last_pair p j m =
-    given_behind (pair_relations p j m) (line_relations j (suc m) (right_side p j (suc m))) j (suc m)
+    given_behind (pair_relations p j m) (line_relations j (suc m) (right_of p (suc m) j)) j (suc m)
     (Each-weaker (IsOf j m) (IsOther j (suc m)) (pair_relations p j m) (λ r h. other_below r.above r.below j (suc m) (λ e. omega (arith, h.1))) (pair_pairs p j m))
-    ∙ given_line j (suc m) (right_side p j (suc m))
+    ∙ given_line j (suc m) (right_of p (suc m) j)
 
-given_pairs : (p : Presented) (j i m : ℕ) → 1 ≤ i → i ≤ m → right_given (pair_relations p j m) j i ≡ right_side p j i
+given_pairs : (p : Presented) (j i m : ℕ) → 1 ≤ i → i ≤ m → right_given (pair_relations p j m) j i ≡ right_of p i j
 given_pairs p j i zero low high = absurd (omega arith)
 given_pairs p j i (suc m) low high =
-    let line : List Relation = line_relations j (suc m) (right_side p j (suc m)) in
-    elim (cases_lt i (suc m)) as (λ _. right_given (pair_relations p j (suc m)) j i ≡ right_side p j i) [
+    let line : List Relation = line_relations j (suc m) (right_of p (suc m) j) in
+    elim (cases_lt i (suc m)) as (λ _. right_given (pair_relations p j (suc m)) j i ≡ right_of p i j) [
       | inl old ↦ given_before (pair_relations p j m) line j i
-          (Each-weaker (λ r. (r.above ≡ j) × (r.below ≡ suc m)) (IsOther j i) line (λ r h. other_below r.above r.below j i (λ e. omega (arith, h.1))) (pair_line j (suc m) (right_side p j (suc m))))
+          (Each-weaker (λ r. (r.above ≡ j) × (r.below ≡ suc m)) (IsOther j i) line (λ r h. other_below r.above r.below j i (λ e. omega (arith, h.1))) (pair_line j (suc m) (right_of p (suc m) j)))
           ∙ given_pairs p j i m low (omega arith)
-      | inr last ↦ let e : suc m ≡ i = omega arith in subst (λ (x : ℕ). right_given (pair_relations p j (suc m)) j x ≡ right_side p j x) e (last_pair p j m)
+      | inr last ↦ let e : suc m ≡ i = omega arith in subst (λ (x : ℕ). right_given (pair_relations p j (suc m)) j x ≡ right_of p x j) e (last_pair p j m)
     ]
 
-last_all : (p : Presented) (i m : ℕ) → 1 ≤ i → i ≤ m → right_given (all_relations p (suc m)) (suc m) i ≡ right_side p (suc m) i
+last_all : (p : Presented) (i m : ℕ) → 1 ≤ i → i ≤ m → right_given (all_relations p (suc m)) (suc m) i ≡ right_of p i (suc m)
 last_all p i m low high =
     given_behind (all_relations p m) (pair_relations p (suc m) m) (suc m) i
     (Each-weaker (IsUpTo m) (IsOther (suc m) i) (all_relations p m) (λ r h. other_above r.above r.below (suc m) i (λ e. omega (arith, h))) (above_all p m))
     ∙ given_pairs p (suc m) i m low high
 
-pub given_relations : (p : Presented) (j i m : ℕ) → 1 ≤ i → i < j → j ≤ m → right_given (all_relations p m) j i ≡ right_side p j i
+pub given_relations : (p : Presented) (j i m : ℕ) → 1 ≤ i → i < j → j ≤ m → right_given (all_relations p m) j i ≡ right_of p i j
 given_relations p j i zero low order high = absurd (omega arith)
 given_relations p j i (suc m) low order high =
     let pairs : List Relation = pair_relations p (suc m) m in
-    elim (cases_lt j (suc m)) as (λ _. right_given (all_relations p (suc m)) j i ≡ right_side p j i) [
+    elim (cases_lt j (suc m)) as (λ _. right_given (all_relations p (suc m)) j i ≡ right_of p i j) [
       | inl old ↦ given_before (all_relations p m) pairs j i
           (Each-weaker (IsOf (suc m) m) (IsOther j i) pairs (λ r h. other_above r.above r.below j i (λ e. omega (arith, h.0))) (pair_pairs p (suc m) m))
           ∙ given_relations p j i m low order (omega arith)
-      | inr last ↦ let e : suc m ≡ j = omega arith in subst (λ (x : ℕ). right_given (all_relations p (suc m)) x i ≡ right_side p x i) e (last_all p i m low (omega arith))
+      | inr last ↦ let e : suc m ≡ j = omega arith in subst (λ (x : ℕ). right_given (all_relations p (suc m)) x i ≡ right_of p i x) e (last_all p i m low (omega arith))
     ]

@@ -16,7 +16,7 @@ pub record IsShaped (d : Draft) : Type 0 where
   pub rows : length d.rights ≡ length d.names
   pub widths : (k : ℕ) → k < length d.rights → length (get_or d.rights k []) ≡ k
 
-pub IsShaped-with_relation : (d : Draft) (j i : ℕ) (right : List Syllable) → IsShaped d → IsShaped (with_relation d j i right)
+pub IsShaped-with_relation : (d : Draft) (j i : ℕ) (right : List Syllable) → IsShaped d → IsShaped (with_relation d i j right)
 IsShaped-with_relation d j i right h =
     let n : length (set d.rights (j - 1) (set (get_or d.rights (j - 1) []) (i - 1) (Some right))) ≡ length d.rights = length-set d.rights (j - 1) (set (get_or d.rights (j - 1) []) (i - 1) (Some right)) in
     let m : length (set (get_or d.rights (j - 1) []) (i - 1) (Some right)) ≡ length (get_or d.rights (j - 1) []) = length-set (get_or d.rights (j - 1) []) (i - 1) (Some right) in
@@ -75,24 +75,24 @@ none-append [] row (suc k) l h e = refl
 none-append (r ∷ rows) row zero l h e = h
 none-append (r ∷ rows) row (suc k) l h e = none-append rows row k l h e
 
-pub added-named : (d : Draft) (ws : List (List ℕ)) → ((k l : ℕ) → added d k l ≡ None) → (k l : ℕ) → added (named d ws) k l ≡ None
+pub added-named : (d : Draft) (ws : List (List ℕ)) → ((k l : ℕ) → added d l k ≡ None) → (k l : ℕ) → added (named d ws) l k ≡ None
 added-named d [] h k l = h k l
 added-named d (w ∷ ws) h k l =
     added-named (with_name d w) ws (λ m n. none-append d.rights (replicate (length d.names) None) (m - 1) (n - 1) (h m n) (none-replicate (length d.names) (n - 1))) k l
 
 -- what is added with one more relation
-added-same : (d : Draft) (j i : ℕ) (right : List Syllable) → IsShaped d → 1 ≤ i → i < j → j ≤ length d.names → added (with_relation d j i right) j i ≡ Some right
+added-same : (d : Draft) (j i : ℕ) (right : List Syllable) → IsShaped d → 1 ≤ i → i < j → j ≤ length d.names → added (with_relation d i j right) i j ≡ Some right
 added-same d j i right h low order high =
     let in_rows : j - 1 < length d.rights = omega (arith, h.rows) in
     let in_row : i - 1 < length (get_or d.rights (j - 1) []) = omega (arith, h.widths (j - 1) in_rows) in
     ap (λ (row : List (Option (List Syllable))). get_or row (i - 1) None) (get_or-set_same d.rights (j - 1) (set (get_or d.rights (j - 1) []) (i - 1) (Some right)) [] in_rows)
     ∙ get_or-set_same (get_or d.rights (j - 1) []) (i - 1) (Some right) None in_row
 
-added-row : (d : Draft) (j i k l : ℕ) (right : List Syllable) → k - 1 ≢ j - 1 → added (with_relation d j i right) k l ≡ added d k l
+added-row : (d : Draft) (j i k l : ℕ) (right : List Syllable) → k - 1 ≢ j - 1 → added (with_relation d i j right) l k ≡ added d l k
 added-row d j i k l right other =
     ap (λ (row : List (Option (List Syllable))). get_or row (l - 1) None) (get_or-set_other d.rights (j - 1) (k - 1) (set (get_or d.rights (j - 1) []) (i - 1) (Some right)) [] other)
 
-added-entry : (d : Draft) (j i l : ℕ) (right : List Syllable) → j - 1 < length d.rights → l - 1 ≢ i - 1 → added (with_relation d j i right) j l ≡ added d j l
+added-entry : (d : Draft) (j i l : ℕ) (right : List Syllable) → j - 1 < length d.rights → l - 1 ≢ i - 1 → added (with_relation d i j right) l j ≡ added d l j
 added-entry d j i l right in_rows other =
     ap (λ (row : List (Option (List Syllable))). get_or row (l - 1) None) (get_or-set_same d.rights (j - 1) (set (get_or d.rights (j - 1) []) (i - 1) (Some right)) [] in_rows)
     ∙ get_or-set_other (get_or d.rights (j - 1) []) (i - 1) (l - 1) (Some right) None other
@@ -101,16 +101,16 @@ apart : (a b : ℕ) → 1 ≤ a → 1 ≤ b → (a == b) ≡ false → b - 1 ≢
 apart a b la lb h e = let same : a ≡ b = omega arith in let t : (a == b) ≡ true = grind (arith, nat_tests) in cc
 
 added_by : (p q : Bool) (d : Draft) (j i k l : ℕ) (right : List Syllable) → (j == k) ≡ p → (i == l) ≡ q → IsShaped d → 1 ≤ i → i < j → j ≤ length d.names → 1 ≤ k → 1 ≤ l
-    → added (with_relation d j i right) k l ≡ (if p && q then Some right else added d k l)
+    → added (with_relation d i j right) l k ≡ (if p && q then Some right else added d l k)
 added_by true true d j i k l right e f h low order high a b =
     let je : k ≡ j = sym (eqb-true j k e) in
     let ie : l ≡ i = sym (eqb-true i l f) in
-    ap (λ x. added (with_relation d j i right) x l) je ∙ ap (λ y. added (with_relation d j i right) j y) ie ∙ added-same d j i right h low order high
+    ap (λ x. added (with_relation d i j right) l x) je ∙ ap (λ y. added (with_relation d i j right) y j) ie ∙ added-same d j i right h low order high
 added_by true false d j i k l right e f h low order high a b =
     let je : j ≡ k = eqb-true j k e in
-    ap (λ x. added (with_relation d j i right) x l) (sym je)
+    ap (λ x. added (with_relation d i j right) l x) (sym je)
     ∙ added-entry d j i l right (omega (arith, h.rows)) (apart i l low b f)
-    ∙ ap (λ x. added d x l) je
+    ∙ ap (λ x. added d l x) je
 added_by false q d j i k l right e f h low order high a b = added-row d j i k l right (apart j k (omega arith) a e)
 
 -- a relation of two of n generators, the first one above the second
@@ -125,7 +125,7 @@ ArePairs n (s ∷ given) = IsPair n s × ArePairs n given
 
 abbrev pub draft_of : Draft → List Spelled → Draft
 draft_of d [] = d
-draft_of d (s ∷ given) = with_relation (draft_of d given) s.above s.below (syllables_of s.right)
+draft_of d (s ∷ given) = with_relation (draft_of d given) s.below s.above (syllables_of s.right)
 
 -- what was given for a pair
 abbrev pub given_in : List Spelled → ℕ → ℕ → Option (List Syllable)
@@ -140,8 +140,8 @@ pub IsShaped-draft_of : (d : Draft) (given : List Spelled) → IsShaped d → Is
 IsShaped-draft_of d [] h = h
 IsShaped-draft_of d (s ∷ given) h = IsShaped-with_relation (draft_of d given) s.above s.below (syllables_of s.right) (IsShaped-draft_of d given h)
 
-pub added-draft_of : (d : Draft) (given : List Spelled) (k l : ℕ) → IsShaped d → ((k l : ℕ) → added d k l ≡ None) → ArePairs (length d.names) given → 1 ≤ k → 1 ≤ l
-    → added (draft_of d given) k l ≡ given_in given k l
+pub added-draft_of : (d : Draft) (given : List Spelled) (k l : ℕ) → IsShaped d → ((k l : ℕ) → added d l k ≡ None) → ArePairs (length d.names) given → 1 ≤ k → 1 ≤ l
+    → added (draft_of d given) l k ≡ given_in given k l
 added-draft_of d [] k l h none pairs a b = none k l
 added-draft_of d (s ∷ given) k l h none pairs a b =
     let same : length (draft_of d given).names ≡ length d.names = ap length (names-draft_of d given) in

@@ -7,7 +7,7 @@ use Rattle.std.proofs.lemmas.Bool.Decides.{nat_tests}
 use Rattle.std.proofs.lemmas.List.{get_or-map, length-map, ext_get_or}
 use Rattle.std.proofs.lemmas.Slice.Eq.{bytes_eq-Decides}
 use Rattle.nil_pres.specs.declared.syllable.Syllable.{Syllable}
-use Rattle.nil_pres.specs.Presented.{Draft, Presented, AreNames, IsPresented, is_name, added, right_side, rights_of, finished}
+use Rattle.nil_pres.specs.Presented.{Draft, Presented, AreNames, IsPresented, is_name, added, right_of, rights_of, finished}
 use Rattle.nil_pres.proofs.Naming.{absent_before}
 use Rattle.pres_text.specs.declared.file_kind.FileKind.{FileKind}
 use Rattle.pres_text.specs.declared.file_kind.FileKind.TheVariants as kind
@@ -20,8 +20,8 @@ use Rattle.pres_text.proofs.Whole.{broken-None, shaped, names_are, given_are, on
 use Rattle.pres_text.proofs.Saying.{IsFound, or_else, relation_at, right_given-relation_at, at_line-None, relations_fault-None, all_new, relations_fine}
 
 -- the right sides of a finished draft
-right_side-finished : (d : Draft) (j i : ℕ) → IsShaped d → 1 ≤ i → i < j → j ≤ length d.names → right_side (finished d) j i ≡ unwrap_or (added d j i) []
-right_side-finished d j i h low order high =
+right_of-finished : (d : Draft) (j i : ℕ) → IsShaped d → 1 ≤ i → i < j → j ≤ length d.names → right_of (finished d) i j ≡ unwrap_or (added d i j) []
+right_of-finished d j i h low order high =
     let in_rows : j - 1 < length d.rights = omega (arith, h.rows) in
     let in_row : i - 1 < length (get_or d.rights (j - 1) []) = omega (arith, h.widths (j - 1) in_rows) in
     ap (λ (row : List (List Syllable)). get_or row (i - 1) []) (get_or-map (map (λ (right : Option (List Syllable)). unwrap_or right [])) d.rights (j - 1) [] [] in_rows)
@@ -34,10 +34,10 @@ or_else-None (Some x) = refl
 abbrev draft : List (List ℕ) → List Line → Draft
 draft names ls = draft_of (named start names) (onto names [] ls)
 
-rights_found : (names : List (List ℕ)) (ls : List Line) (rs : List Relation) → IsFound names [] ls rs → (j i : ℕ) → 1 ≤ i → i < j → j ≤ length names → right_side (finished (draft names ls)) j i ≡ right_given rs j i
+rights_found : (names : List (List ℕ)) (ls : List Line) (rs : List Relation) → IsFound names [] ls rs → (j i : ℕ) → 1 ≤ i → i < j → j ≤ length names → right_of (finished (draft names ls)) i j ≡ right_given rs j i
 rights_found names ls rs found j i low order high =
     let same : length (draft names ls).names ≡ length names = ap length (names_are names (onto names [] ls)) in
-    right_side-finished (draft names ls) j i (IsShaped-draft_of (named start names) (onto names [] ls) (shaped names)) low order (omega (arith, same))
+    right_of-finished (draft names ls) j i (IsShaped-draft_of (named start names) (onto names [] ls) (shaped names)) low order (omega (arith, same))
     ∙ ap (λ (o : Option (List Syllable)). unwrap_or o []) (given_are names (onto names [] ls) j i found.pairs (omega (arith, low, order)) low ∙ found.lookup j i ∙ or_else-None (relation_at rs j i))
     ∙ right_given-relation_at rs j i
 
@@ -146,7 +146,7 @@ is_file_by file (l ∷ g ∷ ls) end e h p =
       lawful = p;
       rights = λ j i low order high.
           let few : j ≤ length names = subst (λ (ns : List (List ℕ)). j ≤ length ns) names_is high in
-          ap (λ (d : Draft). right_side (finished d) j i) d_is ∙ rights_found names ls found.relations found.found j i low order few;
+          ap (λ (d : Draft). right_of (finished d) i j) d_is ∙ rights_found names ls found.relations found.found j i low order few;
     }
 
 pub is_file : (file : List ℕ) → first_fault file ≡ None → IsPresented (finished (all_drafted (content file))) → IsFile (finished (all_drafted (content file))) file
@@ -174,7 +174,7 @@ before_one k = omega arith
 
 same_presented : (p q : Presented) → p.names ≡ q.names → length p.rights ≡ length p.names → length q.rights ≡ length q.names
     → ((k : ℕ) → k < length p.rights → length (get_or p.rights k []) ≡ k) → ((k : ℕ) → k < length q.rights → length (get_or q.rights k []) ≡ k)
-    → ((j i : ℕ) → 1 ≤ i → i < j → j ≤ length p.names → right_side p j i ≡ right_side q j i) → p ≡ q
+    → ((j i : ℕ) → 1 ≤ i → i < j → j ≤ length p.names → right_of p i j ≡ right_of q i j) → p ≡ q
 same_presented p q names rows_p rows_q widths_p widths_q same =
     let count : length p.rights ≡ length q.rights = rows_p ∙ ap length names ∙ sym rows_q in
     let rights : p.rights ≡ q.rights =
@@ -199,7 +199,7 @@ width-finished d h k below =
     ∙ length-map (get_or d.rights k []) (λ (right : Option (List Syllable)). unwrap_or right []) ∙ h.widths k in_rows
 
 pub drafted_is : (p : Presented) (names : List (List ℕ)) (ls : List Line) (rs : List Relation) → names ≡ p.names → IsPresented p → IsFound names [] ls rs
-    → ((j i : ℕ) → 1 ≤ i → i < j → j ≤ length p.names → right_side p j i ≡ right_given rs j i) → finished (draft names ls) ≡ p
+    → ((j i : ℕ) → 1 ≤ i → i < j → j ≤ length p.names → right_of p i j ≡ right_given rs j i) → finished (draft names ls) ≡ p
 drafted_is p names ls rs same lawful found rights =
     let d : Draft = draft names ls in
     let shape = IsShaped-draft_of (named start names) (onto names [] ls) (shaped names) in

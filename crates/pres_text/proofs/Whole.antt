@@ -77,7 +77,7 @@ shaped names = IsShaped-named start names IsShaped-start
 pub names_are : (names : List (List ℕ)) (given : List Spelled) → (draft_of (named start names) given).names ≡ names
 names_are names given = names-draft_of (named start names) given ∙ names-named start names
 
-pub given_are : (names : List (List ℕ)) (given : List Spelled) (k l : ℕ) → ArePairs (length names) given → 1 ≤ k → 1 ≤ l → added (draft_of (named start names) given) k l ≡ given_in given k l
+pub given_are : (names : List (List ℕ)) (given : List Spelled) (k l : ℕ) → ArePairs (length names) given → 1 ≤ k → 1 ≤ l → added (draft_of (named start names) given) l k ≡ given_in given k l
 given_are names given k l pairs a b =
     let own : ArePairs (length (named start names).names) given = subst (λ (ns : List (List ℕ)). ArePairs (length ns) given) (sym (names-named start names)) pairs in
     added-draft_of (named start names) given k l (shaped names) (added-named start names (λ m n. refl)) own a b

@@ -3,10 +3,10 @@ use Rattle.std.proofs.Common.{◌≡◌, ℕ, ◌+◌, ◌≤◌, List, [], ◌�
 use Rattle.std.specs.List.{flat_map}
 use Rattle.std.proofs.lemmas.List.{append-nil, drop_all}
 use Rattle.nil_pres.specs.declared.syllable.Syllable.{Syllable}
-use Rattle.nil_pres.specs.Presented.{Presented, right_side}
+use Rattle.nil_pres.specs.Presented.{Presented, right_of}
 use Rattle.pres_text.specs.Text.{power_text, right_text, line_text, pairs_text}
 
-pub pairs_text-next : (p : Presented) (j i : ℕ) → pairs_text p j (i + 1) ≡ pairs_text p j i ++ line_text p.names j (i + 1) (right_side p j (i + 1))
+pub pairs_text-next : (p : Presented) (j i : ℕ) → pairs_text p j (i + 1) ≡ pairs_text p j i ++ line_text p.names j (i + 1) (right_of p (i + 1) j)
 pairs_text-next p j i = rw (add-one i) refl
 
 abbrev times_text : List (List ℕ) → List Syllable → List ℕ

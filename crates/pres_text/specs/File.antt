@@ -7,7 +7,7 @@
 use Rattle.std.specs.Prelude.{◌≡◌, ℕ, ◌<◌, ◌≤◌, ◌==◌, ◌&&◌, true, List, [], ◌∷◌, length, map, Some, codes, if◌then◌else◌}
 use Rattle.nil_pres.specs.declared.syllable.Syllable.{Syllable}
 use Rattle.nil_pres.specs.Rights.{IsRight}
-use Rattle.nil_pres.specs.Presented.{Presented, IsPresented, right_side}
+use Rattle.nil_pres.specs.Presented.{Presented, IsPresented, right_of}
 use Rattle.line_tokens.specs.Tokens.{kinds}
 use Rattle.pres_text.specs.Lines.{content, words, is_text}
 use Rattle.pres_text.specs.Relation.{Power, Spelled, IsSpelled, relation_word}
@@ -60,4 +60,4 @@ pub record IsFile (p : Presented) (file : List ℕ) : Type 0 where
   pub are_relations : AreRelations p.names others relations
   -- the presentation is lawful, and has the right sides that are given
   pub lawful : IsPresented p
-  pub rights : (j i : ℕ) → 1 ≤ i → i < j → j ≤ length p.names → right_side p j i ≡ right_given relations j i
+  pub rights : (j i : ℕ) → 1 ≤ i → i < j → j ≤ length p.names → right_of p i j ≡ right_given relations j i

@@ -52,7 +52,7 @@ has_unknown_number c = (c.above == 0) || (c.below == 0) || list_any (λ s. s.num
 abbrev pub clipped_fault : ℕ → nil.Draft → Clipped → Option PresFault
 clipped_fault n d c =
     if has_unknown_number c then Some (File n kind.Name)
-    else option_map (relation_fault_at n) (nil.relation_fault d c.above c.below c.right)
+    else option_map (relation_fault_at n) (nil.relation_fault d c.below c.above c.right)
 
 abbrev pub found_fault : ℕ → nil.Draft → Option Clipped → Option PresFault
 found_fault n d None = Some (File n kind.Relation)
@@ -67,7 +67,7 @@ drafted_fault d l =
     if not (is_text l.text) then Some (File l.number kind.NotText) else found_fault l.number d (found_in d l)
 
 abbrev pub with_clipped : nil.Draft → Clipped → nil.Draft
-with_clipped d c = nil.with_relation d c.above c.below c.right
+with_clipped d c = nil.with_relation d c.below c.above c.right
 
 abbrev pub with_found : nil.Draft → Option Clipped → nil.Draft
 with_found d None = d

@@ -11,7 +11,7 @@ use Rattle.std.specs.List.{flat_map}
 use Rattle.std.specs.Ordering.{int_eq}
 use Rattle.std.specs.Fmt.{signed_decimal}
 use Rattle.nil_pres.specs.declared.syllable.Syllable.{Syllable}
-use Rattle.nil_pres.specs.Presented.{Presented, right_side}
+use Rattle.nil_pres.specs.Presented.{Presented, right_of}
 
 abbrev pub name_of : List (List ℕ) → ℕ → List ℕ
 name_of names k = slice_index_or names (k - 1) []
@@ -32,7 +32,7 @@ line_text names j i (s ∷ right) = bracket_text names j i ++ right_text names (
 
 abbrev pub pairs_text : Presented → ℕ → ℕ → List ℕ
 pairs_text p j zero = []
-pairs_text p j (suc i) = pairs_text p j i ++ line_text p.names j (suc i) (right_side p j (suc i))
+pairs_text p j (suc i) = pairs_text p j i ++ line_text p.names j (suc i) (right_of p (suc i) j)
 
 abbrev pub relations_text : Presented → ℕ → List ℕ
 relations_text p zero = []

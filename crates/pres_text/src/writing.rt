@@ -3,7 +3,7 @@
 ghost use Rattle.std.specs.Prelude.{◌≡◌, ◌≤◌, ◌<◌, ◌++◌, length, IfOk, OnOk, string_bytes, ◌-◌};
 ghost use Rattle.std.specs.List.{All};
 ghost use Rattle.nil_pres.specs.Rights.{AreUpTo};
-ghost use Rattle.nil_pres.specs.Presented.{right_side};
+ghost use Rattle.nil_pres.specs.Presented.{right_of};
 ghost use Rattle.pres_text.specs.File.{IsFile};
 ghost use Rattle.pres_text.specs.Text.{name_of, power_text, right_text, line_text, pairs_text, relations_text, names_text, text_of};
 
@@ -59,7 +59,7 @@ fn put_line(text: &mut String, pres: &Presentation, j: u32, i: u32) -> Result<()
     requires below { i < j }
     requires most { j ≤ length pres.now.names }
     ensures { OnOk result (string_bytes text.new ≡ string_bytes text.old
-        ++ line_text pres.now.names j i (right_side pres.now j i)) }
+        ++ line_text pres.now.names j i (right_of pres.now i j)) }
 {
     let right = pres.right_side(j, i);
     if right.is_empty() {

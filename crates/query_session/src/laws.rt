@@ -19,7 +19,7 @@ ghost use Rattle.query_session.specs.Runs.{IsRun};
 
 use central_table::laws::central_tables;
 use hall_law::laws::uniqueness;
-use nil_pres::laws::relations;
+use hall_table::presentations::relations;
 use nil_word::laws::congruence;
 use pres_text::laws::files;
 use word_text::laws::readings;

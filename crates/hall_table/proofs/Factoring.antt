@@ -1,10 +1,10 @@
 -- The right sides of a presentation are ascending factors above their pair.
 use Rattle.std.proofs.Common.{◌≡◌, ℕ, ◌<◌, ◌≤◌, Bool, true, nat_le, nat_lt, ◌&&◌, if◌then◌else◌, List, [], ◌∷◌, length, sym, ◌∙◌, ap, subst}
 use Rattle.std.proofs.lemmas.Bool.{le-leb, lt-ltb}
-use Rattle.hall_law.specs.Plan.{IsAscending}
+use Rattle.nil_word.specs.Factors.{IsAscending}
 use Rattle.nil_pres.specs.declared.syllable.Syllable.{Syllable}
 use Rattle.nil_pres.specs.Rights.{IsRight}
-use Rattle.nil_pres.specs.Presented.{Presented, IsPresented, right_side}
+use Rattle.nil_pres.specs.Presented.{Presented, IsPresented, right_of}
 use Rattle.nil_pres.specs.Relations.{factors_of, is_pair, between}
 
 IsAscending-factors_of : (low high : ℕ) (right : List Syllable) → IsRight low high right → IsAscending low high (factors_of right)
@@ -16,5 +16,5 @@ is_pair_between p j l a b d = ap (λ (t : Bool). t && nat_lt j l && nat_le l (le
 
 pub ascends : (p : Presented) → IsPresented p → (j l : ℕ) → 1 ≤ j → j < l → l ≤ length p.names → IsAscending l (length p.names) (between p j l)
 ascends p h j l a b d =
-    let is : between p j l ≡ factors_of (right_side p l j) = ap (λ (t : Bool). if t then factors_of (right_side p l j) else []) (is_pair_between p j l a b d) in
-    subst (IsAscending l (length p.names)) (sym is) (IsAscending-factors_of l (length p.names) (right_side p l j) (h.lawful l j a b))
+    let is : between p j l ≡ factors_of (right_of p j l) = ap (λ (t : Bool). if t then factors_of (right_of p j l) else []) (is_pair_between p j l a b d) in
+    subst (IsAscending l (length p.names)) (sym is) (IsAscending-factors_of l (length p.names) (right_of p j l) (h.lawful j l a b))
