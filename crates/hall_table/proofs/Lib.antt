@@ -10,3 +10,4 @@ pub mod Greatest
 pub mod Dropping
 pub mod Splitting
 pub mod Entries
+pub mod OneTable
