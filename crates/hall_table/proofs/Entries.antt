@@ -24,7 +24,7 @@ use Rattle.hall_table.proofs.Dropping.{IsTabled-tail_of, last_of-tail_of, value_
 use Rattle.hall_table.proofs.Putting.{Agree, value-agree}
 use Rattle.hall_table.proofs.Splitting.{Cuts, value-HasShape}
 
-entry-values : (t : Tabled) (x y : List ℤ) (k : ℕ) → IsTabled t → t.level ≤ k → k ≤ last_of t
+pub entry-values : (t : Tabled) (x y : List ℤ) (k : ℕ) → IsTabled t → t.level ≤ k → k ≤ last_of t
     → entry (values t x y) k ≡ value_of (point_of x y) (poly_at t k)
 entry-values t x y k h low high =
     let least : 1 ≤ t.level = h.least in
@@ -32,10 +32,10 @@ entry-values t x y k h low high =
     (omega arith) low high
 
 -- ---- points
-point_of-x : (x y : List ℤ) (v : ℕ) → v < 64 → point_of x y v ≡ entry x v
+pub point_of-x : (x y : List ℤ) (v : ℕ) → v < 64 → point_of x y v ≡ entry x v
 point_of-x x y v l = ap (λ (b : Bool). cond b (entry x v) (entry y (v - 64))) (lt-ltb v 64 l)
 
-point_of-y : (x y : List ℤ) (v : ℕ) → 64 ≤ v → point_of x y v ≡ entry y (v - 64)
+pub point_of-y : (x y : List ℤ) (v : ℕ) → 64 ≤ v → point_of x y v ≡ entry y (v - 64)
 point_of-y x y v l = ap (λ (b : Bool). cond b (entry x v) (entry y (v - 64))) (le-ltb v 64 l)
 
 point_of-y_of : (x y : List ℤ) (k : ℕ) → point_of x y (y_of k) ≡ entry y k
@@ -44,11 +44,11 @@ point_of-y_of x y k =
     point_of-y x y (y_of k) (omega arith) ∙ ap (entry y) e
 
 -- a lower variable is x_l or y_l with l from the level on and below k
-is_lower-bounds_x : (level k v : ℕ) → k ≤ 49 → v < 64 → is_lower level k v ≡ true
+pub is_lower-bounds_x : (level k v : ℕ) → k ≤ 49 → v < 64 → is_lower level k v ≡ true
     → (level ≤ v) × (v < k)
 is_lower-bounds_x level k v s l h = (grind (arith, nat_tests), grind (arith, nat_tests))
 
-is_lower-bounds_y : (level k v : ℕ) → k ≤ 49 → 64 ≤ v → is_lower level k v ≡ true
+pub is_lower-bounds_y : (level k v : ℕ) → k ≤ 49 → 64 ≤ v → is_lower level k v ≡ true
     → (level ≤ v - 64) × (v - 64 < k)
 is_lower-bounds_y level k v s l h = (grind (arith, nat_tests), grind (arith, nat_tests))
 

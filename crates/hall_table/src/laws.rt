@@ -1,13 +1,13 @@
 //! What a checked table gives.
 
-ghost use Rattle.std.specs.Prelude.{◌≡◌, ℕ, ◌≤◌, ℤ, List, length, ◌++◌};
-ghost use Rattle.nil_word.specs.Words.{ordered, IsVector};
-ghost use Rattle.nil_word.specs.Congruence.{Congruent};
+ghost use Rattle.std.specs.Prelude.{◌≡◌, ℕ, ◌≤◌, ℤ, List};
+ghost use Rattle.nil_word.specs.Words.{IsVector};
+ghost use Rattle.nil_word.specs.Congruence.{IsConsistent};
 ghost use Rattle.nil_word.specs.Exponents.{entry};
-ghost use Rattle.nil_pres.specs.Presented.{IsPresented};
-ghost use Rattle.nil_pres.specs.Relations.{relations_of};
+ghost use Rattle.nil_pres.specs.Presented.{Presented, IsPresented};
 ghost use Rattle.hall_law.specs.Shape.{IsShaped};
-ghost use Rattle.hall_table.specs.Multiplies.{Paired, IsChecked};
+ghost use Rattle.hall_law.specs.Uniqueness.{ProductsStand, Associates, SolvesOnce};
+ghost use Rattle.hall_table.specs.Multiplies.{IsChecked, OfChecked};
 ghost use Rattle.hall_table.specs.Tabled.{Tabled, IsTabled, last_of};
 ghost use Rattle.hall_table.specs.Tail.{tail_of};
 ghost use Rattle.hall_table.specs.Values.{values};
@@ -15,13 +15,26 @@ ghost use Rattle.hall_table.specs.Values.{values};
 use super::presentations::relations;
 use hall_law::laws::uniqueness;
 
-/// The product by a checked table stands for the two ordered words joined.
-pub fn product()
-    ensures { (c : Paired) → IsPresented c.pres → IsChecked c → (x y : List ℤ)
-        → IsVector (length c.pres.names) c.table.level x
-        → IsVector (length c.pres.names) c.table.level y
-        → Congruent (relations_of c.pres) c.table.level
-        (ordered (values c.table x y)) (ordered x ++ ordered y) }
+/// With a checked table the vectors of its level are the elements of the presentation's group at
+/// that level, each of them once, and the table is their product.
+pub fn group()
+    // Different vectors stand for different elements.
+    ensures consistent { OfChecked (λ rels level f. IsConsistent rels level) }
+    // The product stands for the two ordered words joined.
+    ensures product { OfChecked ProductsStand }
+    ensures associative { OfChecked Associates }
+    // Each equation a x = b has exactly one solution.
+    ensures solution { OfChecked SolvesOnce }
+{
+    uniqueness();
+    relations();
+}
+
+/// Two tables of one level that multiply in one presentation are equal, polynomial by polynomial.
+pub fn one_table()
+    ensures { (pres : Presented) (s t : Tabled) → IsPresented pres → IsTabled s → IsTabled t
+        → IsChecked record { pres = pres; table = s } → IsChecked record { pres = pres; table = t }
+        → s.level ≡ t.level → s ≡ t }
 {
     uniqueness();
     relations();
