@@ -1,3 +1,4 @@
+pub mod FaultTexts
 pub mod Lines
 pub mod Relation
 pub mod FirstFault

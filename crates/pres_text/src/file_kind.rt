@@ -1,30 +1,54 @@
 //! Kinds of faults.
 
-use thiserror::Error;
+ghost use Rattle.std.specs.Prelude.{◌≡◌, Some};
+ghost use Rattle.pres_text.specs.FaultTexts.{kind_text};
+
+use std::error::Error;
+use std::fmt;
 
 /// A rule that a line of a presentation file breaks, in the order in which the rules are tried.
-#[derive(Clone, Copy, Debug, PartialEq, Eq, Error)]
+#[derive(Clone, Copy, Debug, PartialEq, Eq)]
 pub enum FileKind {
-    #[error("header")]
     Header,
-    #[error("name")]
     Name,
-    #[error("twicename")]
     TwiceName,
-    #[error("relation")]
     Relation,
-    #[error("order")]
     Order,
-    #[error("twice")]
     Twice,
-    #[error("above")]
     Above,
-    #[error("number")]
     Number,
-    #[error("zero")]
     Zero,
-    #[error("toomany")]
     TooMany,
-    #[error("nottext")]
     NotText,
 }
+
+impl FileKind {
+    /// The kind in lower-case letters.
+    pub fn text(self) -> &'static str
+        ensures { result.now ≡ kind_text self }
+    {
+        match self {
+            FileKind::Header => "header",
+            FileKind::Name => "name",
+            FileKind::TwiceName => "twicename",
+            FileKind::Relation => "relation",
+            FileKind::Order => "order",
+            FileKind::Twice => "twice",
+            FileKind::Above => "above",
+            FileKind::Number => "number",
+            FileKind::Zero => "zero",
+            FileKind::TooMany => "toomany",
+            FileKind::NotText => "nottext",
+        }
+    }
+}
+
+impl fmt::Display for FileKind {
+    ghost output = { λ kind. Some (kind_text kind) };
+
+    fn fmt<W: fmt::Write>(&self, f: &mut fmt::Formatter<W>) -> fmt::Result {
+        f.write_str(self.text())
+    }
+}
+
+impl Error for FileKind {}

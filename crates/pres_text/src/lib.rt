@@ -15,7 +15,7 @@ mod words;
 mod writing;
 
 pub use file_kind::FileKind;
-pub use pres_fault::PresFault;
+pub use pres_fault::{PresFault, fault_text};
 pub use reading::read;
 pub use writing::write;
 
