@@ -37,7 +37,7 @@ module _ (c : Paired) (tabled : IsTabled c.table) (checked : IsChecked c) where
   In n a = IsVector n c.table.level a
 
   -- the solution, in vectors of the presentation's length
-  solution : Shape c → (a b x : List ℤ) → In (length c.pres.names) a → In (length c.pres.names) b
+  pub solution : Shape c → (a b x : List ℤ) → In (length c.pres.names) a → In (length c.pres.names) b
       → solved c.table a b ≡ Ok x → In (length c.pres.names) x × (values c.table a x ≡ b)
   solution shape a b x ha hb is =
       let found = solved_ok c.table tabled shape a b
@@ -68,7 +68,7 @@ module _ (c : Paired) (tabled : IsTabled c.table) (checked : IsChecked c) where
       let (p, first, second) = and_then_ok (inverted c.table b) (λ p. multiplied c.table a p) x is in
       multiplies a p x u (inverse v) second ha (inverts b p v first hb)
 
-  product : (a b p : List ℤ) → In (length c.pres.names) a → In (length c.pres.names) b
+  pub product : (a b p : List ℤ) → In (length c.pres.names) a → In (length c.pres.names) b
       → multiplied c.table a b ≡ Ok p → In (length c.pres.names) p × (values c.table a b ≡ p)
   product a b p ha hb is =
       let made = multiplied_ok c.table a b p is in (

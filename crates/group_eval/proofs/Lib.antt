@@ -17,3 +17,4 @@ pub mod NarrowEvaluations
 pub mod Levels
 pub mod Replies
 pub mod Parts
+pub mod ByValues

@@ -5,3 +5,4 @@ pub mod Expressions
 pub mod Queries
 pub mod Right
 pub mod Laws
+pub mod ByValues

@@ -4,6 +4,7 @@ ghost use Rattle.std.specs.Prelude.{ℕ};
 ghost use Rattle.nil_word.specs.declared.expr.Expr.{Expr};
 ghost use Rattle.nil_word.specs.Expressions.{IsShaped};
 ghost use Rattle.group_eval.specs.Expressions.{IsFrom};
+ghost use Rattle.group_eval.specs.ByValues.{MultipliedByValues, SolvedByValues, InvertedByValues, DividedByValues, PoweredByValues, CommutedByValues, ConjugatedByValues};
 ghost use Rattle.group_eval.specs.Laws.{OfChecked, MultipliedIs, SolvedIs, InvertedIs, DividedIs, PoweredIs, CommutedIs, ConjugatedIs, EvaluatedIs, AnsweredIs};
 
 use hall_law::laws::{elements as vectors, uniqueness};
@@ -27,7 +28,26 @@ pub fn elements()
     uniqueness();
 }
 
-/// So does the written order of an expression.
+/// In terms of the table's values: each vector that the written order gives has entries within 128
+/// bits, and it is the product, the power, or the only vector of its level that solves, inverts,
+/// divides, commutes or conjugates.
+pub fn by_values()
+    ensures products { OfChecked MultipliedByValues }
+    ensures solutions { OfChecked SolvedByValues }
+    ensures inverses { OfChecked InvertedByValues }
+    ensures quotients { OfChecked DividedByValues }
+    ensures powers { OfChecked PoweredByValues }
+    ensures commutators { OfChecked CommutedByValues }
+    ensures conjugates { OfChecked ConjugatedByValues }
+{
+    elements();
+    relations();
+    shaped();
+    vectors();
+    uniqueness();
+}
+
+/// The written order of an expression gives the vector of its word.
 pub fn expressions()
     ensures { OfChecked EvaluatedIs }
 {
