@@ -1,6 +1,7 @@
 -- From the contributions that a map holds to the polynomial that they make
-use Rattle.std.proofs.Common.{◌≡◌, ℕ, ◌^◌, ◌≤◌, List, [], ◌∷◌, ◌++◌, sym, ◌∙◌, subst}
+use Rattle.std.proofs.Common.{◌≡◌, ℕ, List, [], ◌∷◌, ◌++◌, sym, ◌∙◌, subst}
 use Rattle.std.specs.Prelude.{ℤ, unsigned_abs}
+use Rattle.nil_num.specs.Bound.{Overflows}
 use Rattle.binom_poly.specs.declared.part.Part.{Part}
 use Rattle.binom_poly.specs.declared.term.Term.{Term}
 use Rattle.binom_poly.specs.declared.sums.Sum.{Sum}
@@ -22,7 +23,7 @@ held_collected es cs ts h p v =
     unique_form ts (collected cs) p (polynomial-collected cs h.monomials h.within)
     (λ a. v a ∙ h.values a ∙ sym (value-collected a cs))
 
-pub large_overflows : (cs : List Term) (ms : List Part) (c : ℤ) → 2 ^ 127 ≤ unsigned_abs c
+pub large_overflows : (cs : List Term) (ms : List Part) (c : ℤ) → Overflows (unsigned_abs c)
     → DoOverflow (cs ++ contribution ms c ∷ [])
 large_overflows cs ms c h =
     overflows_before cs (contribution ms c ∷ []) (overflows_first (contribution ms c) [] h)

@@ -143,10 +143,10 @@ pub variables_tested : (test : ℕ → Bool) (p : List Term) → IsPolynomial p 
 variables_tested test p h d = subst (All (λ (t : Term). HasOnly test t.monomial)) (only-polynomial test p h d) (all-only test p)
 
 -- ---- one variable
-abbrev other_than : ℕ → ℕ → Bool
+abbrev pub other_than : ℕ → ℕ → Bool
 other_than v w = cond (w == v) false true
 
-is_other : (v w : ℕ) → w ≢ v → other_than v w ≡ true
+pub is_other : (v w : ℕ) → w ≢ v → other_than v w ≡ true
 is_other v w h = rw (ne_eqb w v h) refl
 
 not_other : (b : Bool) → cond b false true ≡ true → b ≡ false

@@ -1,5 +1,5 @@
 -- A polynomial whose values are those of two variables and of terms in others: it is their sum
-use Rattle.std.proofs.Common.{◌≡◌, ◌≢◌, ℕ, ◌+◌, ◌^◌, ◌<◌, Bool, true, false, cond, List, [], ◌∷◌, ◌++◌, refl, sym, ap, ◌∙◌, subst, arith, inl, inr}
+use Rattle.std.proofs.Common.{◌≡◌, ◌≢◌, ℕ, ◌+◌, Bool, true, false, cond, List, [], ◌∷◌, ◌++◌, refl, sym, ap, ◌∙◌, subst, arith, inl, inr}
 use Rattle.std.specs.Prelude.{All, unsigned_abs}
 use Rattle.std.specs.Ordering.{match_ordering}
 use Rattle.std.specs.declared.cmp.Ordering.{Ordering}
@@ -8,6 +8,7 @@ use Rattle.std.proofs.lemmas.Bool.{cases_Bool, false≢true, ne_eqb}
 use Rattle.std.proofs.lemmas.List.Elements.{All-cons, All-tail, All-head}
 use borrow.Author.Differences.{ints}
 use lib.IntN.{ℤ, pos, ◌+ℤ◌, +ℤ_idr, +ℤ_idl}
+use Rattle.nil_num.specs.Bound.{Fits}
 use Rattle.binom_poly.specs.declared.part.Part.{Part}
 use Rattle.binom_poly.specs.declared.term.Term.{Term}
 use Rattle.binom_poly.specs.Monomial.{IsMonomial, IsMonomialAbove, IsVariable, same_parts, same_parts_is, monomial_cmp}
@@ -25,6 +26,7 @@ use Rattle.binom_poly.proofs.Canonical.{all_monomials, value-var_terms, weight-p
 use Rattle.binom_poly.proofs.Collecting.{zero_or_not, value-collected, polynomial-collected}
 use Rattle.binom_poly.proofs.Coefficients.{coefficient_at-collected, abs-coefficient_at}
 use Rattle.binom_poly.proofs.Depending.{has_only, only, masked, masked_there, masked_elsewhere, value-only, polynomial-only, all-only, only_kept, only_dropped}
+use Rattle.binom_poly.proofs.Standing.{variable_added}
 
 -- ---- coefficients in unique form: that of the first term at a monomial is the sum of all
 no_magnitude : (z : ℤ) → unsigned_abs z ≡ 0 → z ≡ pos 0
@@ -113,7 +115,7 @@ monomial-alone v h = (variable_positive v h, h, omega arith, omega arith, tt)
 abbrev two_and : (ℕ → Bool) → ℕ → ℕ → List Term → List Term
 two_and test v w p = var_terms v ++ (var_terms w ++ only test p)
 
-two_more : (b c : Bool) (n : ℕ) → n < 2 ^ 127 → (b ≡ true → n ≡ 0) → (c ≡ true → n ≡ 0) → cond b 1 0 + (cond c 1 0 + n) < 2 ^ 127
+two_more : (b c : Bool) (n : ℕ) → Fits n → (b ≡ true → n ≡ 0) → (c ≡ true → n ≡ 0) → Fits (cond b 1 0 + (cond c 1 0 + n))
 two_more true true n h e f = omega (arith, e refl)
 two_more true false n h e f = omega (arith, e refl)
 two_more false true n h e f = omega (arith, f refl)
@@ -126,7 +128,7 @@ at_alone test v ms p f e =
     ∙ weight-only test (alone v) p (alone_untested test v f)
 
 weight-two_and : (test : ℕ → Bool) (v w : ℕ) (p : List Term) → IsPolynomial p → test v ≡ false → test w ≡ false
-    → (ms : List Part) → weight ms (two_and test v w p) < 2 ^ 127
+    → (ms : List Part) → Fits (weight ms (two_and test v w p))
 unfolding weight
 weight-two_and test v w p h f g ms =
     two_more (same_parts ms (alone v)) (same_parts ms (alone w)) (weight ms (only test p))
@@ -196,15 +198,19 @@ all-two_and test v w p =
     (λ d e. absurd (e refl))
     (λ k t l d e. all-only test p k t l))
 
+turned : (x y z w : ℤ) → w ≡ x +ℤ y +ℤ z → w ≡ y +ℤ x +ℤ z
+turned x y z w e = omega (arith, ints)
+
 -- where the values are those of v + w plus what depends only on variables with the test, p is v + w plus terms in these
-pub two_and_tested : (test : ℕ → Bool) (v w : ℕ) (g : (ℕ → ℤ) → ℤ) (p : List Term) → IsPolynomial p → IsVariable v → IsVariable w
-    → v ≢ w → test v ≡ false → test w ≡ false → DependsOnly test g
+pub two_and_tested : (test : ℕ → Bool) (v w : ℕ) (g : (ℕ → ℤ) → ℤ) (p : List Term) → IsPolynomial p → v ≢ w
+    → test v ≡ false → test w ≡ false → DependsOnly test g
     → ((a : ℕ → ℤ) → value_of a p ≡ a v +ℤ a w +ℤ g a) → IsTwoAnd test v w p
-two_and_tested test v w g p h k l n f m d e =
+two_and_tested test v w g p h n f m d e =
     let q = two_and test v w p in
+    let k : IsVariable v = variable_added test v w g p h n f d e in
+    let l : IsVariable w = variable_added test w v g p h (λ s. n (sym s)) m d (λ a. turned (a v) (a w) (g a) (value_of a p) (e a)) in
     let s : p ≡ collected q = collected-two_and test v w g p h k l f m d e in
-    let t : (ms : List Part) → first.coefficient_at ms p ≡ coefficient_at ms q =
-    λ ms. coefficient_at-first ms p h ∙ ap (coefficient_at ms) s ∙ coefficient_at-collected ms q in
+    let t : (ms : List Part) → first.coefficient_at ms p ≡ coefficient_at ms q = λ ms. coefficient_at-first ms p h ∙ ap (coefficient_at ms) s ∙ coefficient_at-collected ms q in
     record {
       first = t (alone v) ∙ coefficient_at-v test v w p h n f;
       second = t (alone w) ∙ coefficient_at-w test v w p h n m;

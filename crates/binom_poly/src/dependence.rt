@@ -3,7 +3,7 @@
 
 ghost use Rattle.std.specs.Prelude.{◌≡◌, ◌≢◌, ◌+ℤ◌, ℕ, ℤ, Bool, false, List, All};
 ghost use Rattle.binom_poly.specs.declared.term.Term.{Term};
-ghost use Rattle.binom_poly.specs.Monomial.{exponent_of, IsVariable};
+ghost use Rattle.binom_poly.specs.Monomial.{exponent_of};
 ghost use Rattle.binom_poly.specs.Polynomial.{IsPolynomial, value_of};
 ghost use Rattle.binom_poly.specs.Dependence.{DependsOnly, HasOnly, IsTwoAnd};
 
@@ -21,7 +21,7 @@ pub fn variables_held()
 /// that the two don't meet, the polynomial is the two plus terms in variables with the test.
 pub fn two_and_others()
     ensures { (test : ℕ → Bool) (v w : ℕ) (g : (ℕ → ℤ) → ℤ) (p : List Term) → IsPolynomial p
-        → IsVariable v → IsVariable w → v ≢ w → test v ≡ false → test w ≡ false
+        → v ≢ w → test v ≡ false → test w ≡ false
         → DependsOnly test g → ((a : ℕ → ℤ) → value_of a p ≡ a v +ℤ a w +ℤ g a)
         → IsTwoAnd test v w p }
 {}
