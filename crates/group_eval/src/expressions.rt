@@ -1,7 +1,7 @@
 //! Expressions.
 
 ghost use Rattle.std.specs.Prelude.{◌≡◌, ◌≤ℤ◌, negsuc, length, Ok, Err, OnOk, OnErr, IfOk, IfErr};
-ghost use Rattle.nil_word.specs.Entries.{balance};
+ghost use Rattle.nil_num.specs.Bound.{IsNumber};
 ghost use Rattle.nil_word.specs.Expressions.{unrolled, IsShaped};
 ghost use Rattle.hall_table.specs.declared.wide_at.WideAt.{WideAt};
 ghost use Rattle.hall_table.specs.Multiplies.{IsChecked};
@@ -148,7 +148,7 @@ fn raised(
     e: i128,
 ) -> Result<Vector, EvalFault>
     requires vector { length a.now ≡ length checked.now.pres.names }
-    requires exponent { negsuc balance ≤ℤ e }
+    requires exponent { IsNumber e }
     requires ws { IsSpaceOf ws.old checked.now }
     ensures order { IfOk result (λ v. powered checked.now.table a.now e ≡ Ok v) }
     ensures wide { IfErr result (λ fault. (at : WideAt) → fault ≡ EvalFault.Wide at

@@ -2,7 +2,7 @@
 
 ghost use Rattle.std.specs.Prelude.{◌≡◌, ◌<◌, ◌≤◌, ◌≤ℤ◌, negsuc, ℕ, List, length, OnOk, OnErr};
 ghost use Rattle.nil_word.specs.declared.letter.Letter.{Letter};
-ghost use Rattle.nil_word.specs.Entries.{balance};
+ghost use Rattle.nil_num.specs.Bound.{IsNumber};
 ghost use Rattle.nil_word.specs.Expressions.{raised};
 ghost use Rattle.hall_table.specs.Multiplies.{IsChecked};
 ghost use Rattle.hall_table.specs.Tabled.{IsTabled, last_of};
@@ -30,7 +30,7 @@ pub fn power(
     out: &mut Vector,
 ) -> Result<(), WideAt>
     requires left { length a.now ≡ length checked.now.pres.names }
-    requires exponent { negsuc balance ≤ℤ e }
+    requires exponent { IsNumber e }
     requires out { length out.old ≡ length checked.now.pres.names }
     requires ws { IsSpaceOf ws.old checked.now }
     ensures element { OnOk result ((u : List Letter) → IsOf checked.now a.now u

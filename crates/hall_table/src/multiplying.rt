@@ -3,7 +3,7 @@
 ghost use Rattle.std.specs.Prelude.{◌≡◌, ◌+◌, ◌-◌, ◌<◌, ◌≤◌, ◌^◌, ℕ, ℤ, pos, negsuc, ◌≤ℤ◌, length, map, cond, OnOk, OnErr, IfOk, IfErr, MatchResult, None, Some, option_map, unsigned_abs, false, true};
 ghost use Rattle.std.proofs.Common.{ltb};
 ghost use Rattle.nil_word.specs.Exponents.{entry, numbers};
-ghost use Rattle.nil_word.specs.Entries.{balance};
+ghost use Rattle.nil_num.specs.Bound.{IsNumber};
 ghost use Rattle.binom_poly.specs.Polynomial.{value_of};
 ghost use Rattle.binom_poly.specs.Readings.{value_at, with_value};
 
@@ -212,7 +212,7 @@ fn sum_at(sums: &[i128], level: u32, last: u32, k: u32) -> i128
     requires most { last ≤ 48 }
     requires within { (k : ℕ) → level ≤ k → k ≤ last → unsigned_abs (entry sums.now k) < 2 ^ 127 }
     ensures value { result ≡ cond (ltb k level) (pos 0) (entry sums.now k) }
-    ensures balanced { negsuc balance ≤ℤ result }
+    ensures number { IsNumber result }
 {
     if k < level {
         return 0;

@@ -1,7 +1,7 @@
 //! Worked rows, and calls with ample memory.
 
 ghost use Rattle.std.specs.Prelude.{◌≡◌, ◌≤ℤ◌, negsuc, length, IfOk};
-ghost use Rattle.nil_word.specs.Entries.{balance};
+ghost use Rattle.nil_num.specs.Bound.{IsNumber};
 
 use crate::*;
 use binom_poly::{Poly, add, mul, same, var};
@@ -63,9 +63,9 @@ fn a_table_gives_its_polynomials_and_those_of_its_tail(rt: HostRuntime) -> Resul
 }
 
 fn vector(alloc: Global, x: i128, y: i128, z: i128) -> Result<Vector, Fail>
-    requires first { negsuc balance ≤ℤ x }
-    requires second { negsuc balance ≤ℤ y }
-    requires third { negsuc balance ≤ℤ z }
+    requires first { IsNumber x }
+    requires second { IsNumber y }
+    requires third { IsNumber z }
     ensures { IfOk result (λ v. length v ≡ 3) }
 {
     let mut vector = Vector::zero(alloc, 3)?;

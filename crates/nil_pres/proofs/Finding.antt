@@ -1,11 +1,10 @@
 -- The place of a name among different ones.
 use Rattle.std.proofs.Common.{◌≡◌, ℕ, zero, suc, ◌+◌, ◌<◌, Bool, cond, true, false, not, List, [], ◌∷◌, length, get_or, Some, None, position, nat_lt, refl, sym, ◌∙◌, ap, arith}
-use Rattle.std.proofs.lemmas.Bool.{lt-ltb}
+use Rattle.std.proofs.lemmas.Bool.{lt-ltb, false_from_ne_true}
 use Rattle.std.proofs.lemmas.Slice.Eq.{bytes_eq-Decides}
 use Rattle.std.specs.List.{prefix_len}
 use Rattle.std.specs.Str.{bytes_eq}
 use Rattle.nil_pres.specs.Presented.{AreNames}
-use Rattle.nil_pres.proofs.Naming.{not_true}
 
 -- how many elements stand in front of the first that passes
 prefix_len-first : {X : Type 0} (p : X → Bool) (xs : List X) (k : ℕ) (d : X) → k < length xs → p (get_or xs k d) ≡ true → ((l : ℕ) → l < k → p (get_or xs l d) ≡ false) → prefix_len (λ x. not (p x)) xs ≡ k
@@ -20,7 +19,7 @@ position-own names k h below =
     let own : bytes_eq (get_or names k []) (get_or names k []) ≡ true = (bytes_eq-Decides (get_or names k []) (get_or names k [])).1 refl in
     let first : prefix_len (λ y. not (bytes_eq (get_or names k []) y)) names ≡ k =
     prefix_len-first (bytes_eq (get_or names k [])) names k [] below own
-    (λ l less. not_true (bytes_eq (get_or names k []) (get_or names l [])) (λ e. h.different l k less below (same (get_or names l []) (get_or names k []) e))) in
+    (λ l less. false_from_ne_true (bytes_eq (get_or names k []) (get_or names l [])) (λ e. h.different l k less below (same (get_or names l []) (get_or names k []) e))) in
     ap (λ (n : ℕ). cond (nat_lt n (length names)) (Some n) None) first ∙ ap (λ (b : Bool). cond b (Some k) None) (lt-ltb k (length names) below)
   where
     same : (a b : List ℕ) → bytes_eq b a ≡ true → a ≡ b

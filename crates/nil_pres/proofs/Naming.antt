@@ -4,7 +4,7 @@ use Rattle.std.proofs.lemmas.List.{map-append, length-map, length-replicate, get
 use Rattle.std.proofs.lemmas.List.Folds.{list_any_at, list_any_none}
 use Rattle.std.proofs.lemmas.Slice.Eq.{bytes_eq-Decides}
 use Rattle.std.proofs.Math.Seq.{get_or-append_seam}
-use Rattle.std.proofs.lemmas.Bool.{leb-false, cases_lt}
+use Rattle.std.proofs.lemmas.Bool.{leb-false, cases_lt, not-false, false_from_ne_true}
 use Rattle.std.specs.List.{list_any}
 use Rattle.std.specs.Str.{bytes_eq}
 use Rattle.std.specs.String.{string_eq}
@@ -27,21 +27,13 @@ passes : {A : Type 0} (b : Bool) (x : A) (r : Option A) → (if b then Some x el
 passes true x r h = cc
 passes false x r h = (refl, h)
 
-not_false : (b : Bool) → not b ≡ false → b ≡ true
-not_false true h = refl
-not_false false h = cc
-
-pub not_true : (b : Bool) → (b ≡ true → ⊥) → b ≡ false
-not_true true h = absurd (h refl)
-not_true false h = refl
-
 -- a name without fault is a name, there is room for it, and it isn't there
 pub free : (names : List (List ℕ)) (name : List ℕ) → name_fault_among names name ≡ None → (length names < 48) × (is_name name ≡ true) × (list_any (bytes_eq name) names ≡ false)
 free names name h =
     let a = passes (nat_le 48 (length names)) _ _ h in
     let b = passes (not (is_name name)) _ _ a.1 in
     let d = passes (list_any (bytes_eq name) names) _ _ b.1 in
-    (leb-false 48 (length names) a.0, not_false (is_name name) b.0, d.0)
+    (leb-false 48 (length names) a.0, not-false (is_name name) b.0, d.0)
 
 -- a name that isn't there is different from each that is
 absent_differs : (names : List (List ℕ)) (name : List ℕ) (k : ℕ) → list_any (bytes_eq name) names ≡ false → k < length names → get_or names k [] ≢ name
@@ -82,7 +74,7 @@ absent_before names k h below =
     differs (get_or names k []) (get_or (take k names) l d) (λ e. h.different l k l_is below (sym same ∙ sym e)))
   where
     differs : (a b : List ℕ) → (a ≡ b → ⊥) → bytes_eq a b ≡ false
-    differs a b h = not_true (bytes_eq a b) (λ e. h ((bytes_eq-Decides a b).0 e))
+    differs a b h = false_from_ne_true (bytes_eq a b) (λ e. h ((bytes_eq-Decides a b).0 e))
 
 abbrev empty : Draft → List (Option (List Syllable))
 empty d = replicate (length d.names) None

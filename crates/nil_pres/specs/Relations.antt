@@ -1,8 +1,9 @@
--- A presentation as right sides of the laws of the group.
+-- The relations of the group that a presentation presents.
 --   factors_of right     the syllables as powers of generators
 --   is_pair p j l        1 <= j < l, and a_l is a generator
---   between p j l        the factors of the right side of a_j and a_l, none where j and l are no pair
+--   between p j l        the factors of the right side of a pair, none where j and l are no pair
 --   relations_of p       as many generators as names, and the words of the right sides
+-- p presentation · j < l generators · s syllable
 use Rattle.std.specs.Prelude.{ℕ, Bool, nat_le, nat_lt, ◌&&◌, List, [], length, map, if◌then◌else◌}
 use Rattle.nil_word.specs.Congruence.{Relations}
 use Rattle.nil_word.specs.Factors.{Factor, word_of}

@@ -1,10 +1,12 @@
 -- Right sides of relations, as lists of syllables.
---   is_lowest e                        e is - 2^63, an exponent whose magnitude is above 2^63 - 1
---   is_zero e                          e is 0
---   syllable_fault place last right    the first fault of syllables that stand from a place on, behind a generator
---   AreUpTo high right                 no syllable is of a generator above high
---   IsRight low high right             ascending generators above low and up to high, with nonzero exponents of
---                                      magnitude at most 2^63 - 1
+--   is_lowest e                       e is - 2^63, whose magnitude is above 2^63 - 1
+--   is_zero e                         e is 0
+--   syllable_fault place last right   the first fault of syllables that stand from a place on, behind
+--                                     a generator
+--   AreUpTo high right                no syllable is of a generator above high
+--   IsRight low high right            ascending generators above low and up to high, with nonzero
+--                                     exponents of magnitude at most 2^63 - 1
+-- e exponent · s syllable · low last high generators
 use Rattle.std.specs.Prelude.{◌≢◌, ℕ, ◌+◌, ◌-◌, ◌^◌, ◌<◌, ◌≤◌, Bool, false, ◌==◌, nat_le, ℤ, pos, negsuc, unsigned_abs, List, [], ◌∷◌, All, Option, Some, None, if◌then◌else◌}
 use Rattle.nil_pres.specs.declared.syllable.Syllable.{Syllable}
 use Rattle.nil_pres.specs.declared.relation_fault.RelationFault.{RelationFault}

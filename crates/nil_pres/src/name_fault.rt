@@ -1,5 +1,6 @@
 //! Faults of names.
 
+use std::alloc::AllocError;
 use thiserror::Error;
 
 /// Why a name isn't taken.
@@ -13,4 +14,15 @@ pub enum NameFault {
     TwiceName,
     #[error("want of memory")]
     Memory,
+}
+
+impl From<AllocError> for NameFault {
+    ghost use Rattle.std.specs.Prelude.{◌≡◌};
+    ghost use Rattle.nil_pres.specs.declared.name_fault.NameFault.{NameFault};
+
+    ghost from_gives = { λ _ fault. fault ≡ NameFault.Memory };
+
+    fn from(_: AllocError) -> NameFault {
+        NameFault::Memory
+    }
 }

@@ -1,5 +1,6 @@
 //! Faults of relations.
 
+use std::alloc::AllocError;
 use thiserror::Error;
 
 /// Why a relation isn't taken. Places of syllables count from 0.
@@ -17,4 +18,15 @@ pub enum RelationFault {
     Zero(usize),
     #[error("want of memory")]
     Memory,
+}
+
+impl From<AllocError> for RelationFault {
+    ghost use Rattle.std.specs.Prelude.{◌≡◌};
+    ghost use Rattle.nil_pres.specs.declared.relation_fault.RelationFault.{RelationFault};
+
+    ghost from_gives = { λ _ fault. fault ≡ RelationFault.Memory };
+
+    fn from(_: AllocError) -> RelationFault {
+        RelationFault::Memory
+    }
 }

@@ -12,7 +12,8 @@ use std::alloc::Global;
 /// The first fault of a right side behind a generator.
 pub(crate) fn first_syllable_fault(above: u32, right: &[Syllable]) -> Option<RelationFault>
     ensures fault { result ≡ syllable_fault 0 above right.now }
-    ensures right { (high : ℕ) → AreUpTo high right.now → IfNone result (IsRight above high right.now) }
+    ensures right { (high : ℕ) → AreUpTo high right.now
+        → IfNone result (IsRight above high right.now) }
 {
     let mut last = above;
     for (place, syllable) in right.iter().enumerate() {

@@ -1,5 +1,5 @@
 -- The words of expressions, piece by piece.
-use Rattle.std.proofs.Common.{◌≡◌, ℕ, zero, suc, ◌+◌, ◌*◌, ◌<◌, min, List, [], ◌∷◌, ◌++◌, length, drop, get_or, drop-cons, refl, eqb, true, sym, ap, ◌∙◌, append_assoc, append-nil, length-append, ℤ, pos, negsuc, inl, inr, arith, add-one}
+use Rattle.std.proofs.Common.{◌≡◌, ℕ, zero, suc, ◌+◌, ◌*◌, min, List, [], ◌∷◌, ◌++◌, length, refl, eqb, true, sym, ap, ◌∙◌, append_assoc, append-nil, length-append, ℤ, pos, negsuc, inl, inr, arith}
 use Rattle.std.proofs.lemmas.Bool.{cases_lt}
 use Rattle.std.proofs.lemmas.Bool.Decides.{nat_tests}
 use Rattle.std.specs.Prelude.{unsigned_abs}
@@ -8,15 +8,7 @@ use Rattle.nil_word.specs.declared.expr.Expr.{Expr, fold-roll-Expr}
 use Rattle.nil_word.specs.declared.expr.Expr.TheOpen as level
 use Rattle.nil_word.specs.declared.expr.Expr.TheVariants.{Pow, Conj, Comm, rolls-Pow, rolls-Conj, rolls-Comm}
 use Rattle.nil_word.specs.Words.{opposite, inverse}
-use Rattle.nil_word.specs.Expressions.{word_of_level, repeated, raised, conjugate, commutator, unrolled, joined_words}
-use Rattle.nil_word.proofs.Inverses.{inverse-append}
-
--- the words of expressions from one on
-pub joined_words-drop : (items : List Expr) (i : ℕ) (e : Expr) → i < length items → joined_words (drop i items) ≡ unrolled (get_or items i e) ++ joined_words (drop (i + 1) items)
-joined_words-drop items i e h = ap joined_words (drop-cons items i e h) ∙ ap (λ k. unrolled (get_or items i e) ++ joined_words (drop k items)) (sym (add-one i))
-
-pub inverse-last : (w : List Letter) (x : Letter) → inverse (w ++ x ∷ []) ≡ opposite x ∷ inverse w
-inverse-last w x = inverse-append w (x ∷ [])
+use Rattle.nil_word.specs.Expressions.{word_of_level, repeated, raised, conjugate, commutator, unrolled}
 
 pub length-inverse : (w : List Letter) → length (inverse w) ≡ length w
 length-inverse [] = refl

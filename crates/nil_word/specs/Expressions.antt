@@ -1,9 +1,19 @@
 -- Expressions: the word of one, and the shape that each call on one asks for.
---   unrolled e       the word that an expression stands for
---   raised w z       a word repeated z times, or its inverse repeated -z times
---   IsShaped n e     products of two and more, generators from 1 to n, exponents within MAX
-use Rattle.std.specs.Prelude.{◌≡◌, ℕ, zero, suc, ◌^◌, ◌-◌, nat_le, Bool, true, ◌&&◌, ℤ, pos, negsuc, List, [], ◌∷◌, ◌++◌, length, map}
+--   repeated n w         w, n times
+--   raised w z           w to the power z: z times w, or - z times its inverse
+--   joined ws            words, one behind another
+--   conjugate u v        v^-1 u v
+--   commutator u v       u^-1 v^-1 u v
+--   word_of_level e      the word of one level of an expression, by the words of its parts
+--   unrolled e           the word that an expression stands for
+--   joined_words es      the words of expressions, one behind another
+--   is_within z          the test of IsNumber
+--   is_shaped_level n e  a level of an expression is well shaped, by the tests of its parts
+--   IsShaped n e         products of two and more, generators from 1 to n, exponents that are numbers
+-- n a count · z exponent · e expression · u v w words
+use Rattle.std.specs.Prelude.{◌≡◌, ℕ, zero, suc, nat_le, Bool, true, not, ◌&&◌, ℤ, pos, negsuc, List, [], ◌∷◌, ◌++◌, length, map}
 use Rattle.std.specs.List.{list_all}
+use Rattle.nil_num.specs.Bound.{overflows}
 use Rattle.nil_word.specs.declared.letter.Letter.{Letter}
 use Rattle.nil_word.specs.Words.{up, inverse}
 use Rattle.nil_word.specs.declared.expr.Expr.{Expr, fold-Expr}
@@ -21,15 +31,12 @@ abbrev pub joined : List (List Letter) → List Letter
 joined [] = []
 joined (w ∷ ws) = w ++ joined ws
 
--- v^-1 u v
 abbrev pub conjugate : List Letter → List Letter → List Letter
 conjugate u v = inverse v ++ u ++ v
 
--- u^-1 v^-1 u v
 abbrev pub commutator : List Letter → List Letter → List Letter
 commutator u v = inverse u ++ inverse v ++ u ++ v
 
--- the word of one level, by the words of its parts
 abbrev pub word_of_level : Expr-F (List Letter) → List Letter
 word_of_level One = []
 word_of_level (Gen k) = up k ∷ []
@@ -41,14 +48,12 @@ word_of_level (Comm u v) = commutator u v
 abbrev pub unrolled : Expr → List Letter
 unrolled e = fold-Expr (List Letter) word_of_level e
 
--- the words of expressions, one behind another
 abbrev pub joined_words : List Expr → List Letter
 joined_words es = joined (map unrolled es)
 
--- a magnitude within 2 ^ 127 - 1
 abbrev pub is_within : ℤ → Bool
-is_within (pos n) = nat_le n (2 ^ 127 - 1)
-is_within (negsuc n) = nat_le n (2 ^ 127 - 2)
+is_within (pos n) = not (overflows n)
+is_within (negsuc n) = not (overflows (suc n))
 
 abbrev pub is_shaped_level : ℕ → Expr-F Bool → Bool
 is_shaped_level n One = true

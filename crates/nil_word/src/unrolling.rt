@@ -2,7 +2,7 @@
 
 ghost use Rattle.std.specs.Prelude.{◌≡◌, ◌++◌, ◌*◌, ◌^◌, ◌<◌, ◌≤◌, ◌↔◌, ℕ, ℤ, length, map, min, Err, IfOk, OnOk};
 ghost use Rattle.nil_word.specs.Words.{inverse};
-ghost use Rattle.nil_word.specs.Expressions.{repeated, raised, joined, conjugate, commutator, unrolled};
+ghost use Rattle.nil_word.specs.Expressions.{repeated, raised, conjugate, commutator, unrolled};
 
 use super::Memory;
 use super::expr::Expr;
@@ -20,10 +20,7 @@ pub fn unroll(alloc: Global, expr: &Expr, limit: u64) -> Result<Word, UnrollFaul
     if letters_up_to(limit as u128 + 1, expr) > limit as u128 {
         return Err(UnrollFault::TooLong);
     }
-    match word_of(alloc, expr) {
-        Ok(word) => Ok(word),
-        Err(_) => Err(UnrollFault::Memory),
-    }
+    Ok(word_of(alloc, expr)?)
 }
 
 /// How many letters the word of an expression has, or `cap` where it has more.
@@ -119,6 +116,7 @@ fn append_inverse(word: &mut Word, more: &Word) -> Result<(), Memory>
     Ok(())
 }
 
+/// A word to a power.
 fn power_of(alloc: Global, base: &Word, exponent: i128) -> Result<Word, Memory>
     ensures { IfOk result (λ w. w ≡ raised base.now exponent) }
 {
@@ -144,6 +142,7 @@ fn repeat(alloc: Global, base: &Word, times: u128) -> Result<Word, Memory>
     Ok(word)
 }
 
+/// A word conjugated by another.
 fn conjugate_of(alloc: Global, u: &Word, v: &Word) -> Result<Word, Memory>
     ensures { IfOk result (λ w. w ≡ conjugate u.now v.now) }
 {
@@ -154,6 +153,7 @@ fn conjugate_of(alloc: Global, u: &Word, v: &Word) -> Result<Word, Memory>
     Ok(word)
 }
 
+/// The commutator of two words.
 fn commutator_of(alloc: Global, u: &Word, v: &Word) -> Result<Word, Memory>
     ensures { IfOk result (λ w. w ≡ commutator u.now v.now) }
 {

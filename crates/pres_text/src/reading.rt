@@ -85,11 +85,7 @@ pub fn read(alloc: Global, bytes: &[u8]) -> Result<Presentation, PresFault>
         Err(fault) => return Err(fault),
     };
     match builder.finish() {
-        Some(presentation) => {
-            // Each presentation's count tells that it is lawful.
-            let _count = presentation.count();
-            Ok(presentation)
-        }
+        Some(presentation) => Ok(presentation),
         None => unreachable!(),
     }
 }

@@ -34,19 +34,19 @@ fine file b h = sym (same file) ∙ none_failed _ b h
 pub unreachable-requires : goal.unreachable-requires
 unreachable-requires c =
     let some : 1 ≤ length (all_drafted (content c.args.bytes.now)).names = some_names c.args.bytes.now (fine c.args.bytes.now c.in-Ok.builder c.in-Ok.ensures.fault) in
-    let names : c.in-Ok.builder.names ≡ [] = c.in-None.ensures in
+    let names : c.in-Ok.builder.names ≡ [] = c.in-None.ensures.presented in
     let same_names : c.in-Ok.builder.names ≡ (all_drafted (content c.args.bytes.now)).names = ap (λ (d : Draft). d.names) c.in-Ok.ensures.ok in
     omega (arith, ap length names, ap length same_names)
 
 pub returns-clause-read : goal.returns-clause-read
 returns-clause-read c =
-    let p_is : c.in-Some.presentation ≡ finished (all_drafted (content c.args.bytes.now)) = c.in-Some.ensures ∙ ap finished c.in-Ok.ensures.ok in
+    let p_is : c.in-Some.presentation ≡ finished (all_drafted (content c.args.bytes.now)) = c.in-Some.ensures.presented ∙ ap finished c.in-Ok.ensures.ok in
     subst (λ (p : Presented). IsFile p c.args.bytes.now) (sym p_is)
-    (is_file c.args.bytes.now (fine c.args.bytes.now c.in-Ok.builder c.in-Ok.ensures.fault) (subst IsPresented p_is c.count-count.ensures.lawful))
+    (is_file c.args.bytes.now (fine c.args.bytes.now c.in-Ok.builder c.in-Ok.ensures.fault) (subst IsPresented p_is c.in-Some.ensures.lawful))
 
 pub returns-clause-only : goal.returns-clause-only
 returns-clause-only c = λ p says.
-    ap Ok (c.in-Some.ensures ∙ ap finished c.in-Ok.ensures.ok ∙ (reads p c.args.bytes.now says).same)
+    ap Ok (c.in-Some.ensures.presented ∙ ap finished c.in-Ok.ensures.ok ∙ (reads p c.args.bytes.now says).same)
 
 pub returns-clause-only_fault : goal.returns-clause-only_fault
 returns-clause-only_fault c =
