@@ -70,6 +70,9 @@ single_bounded n b = chosen (b == 42) (b == 94) (b == 40) (b == 41) (b == 91) (b
     chosen false false false false false false false false true = refl
     chosen false false false false false false false false false = refl
 
+positive_within : (m : ℕ) → nat_le m (2 ^ 127 - 1) ≡ true → is_within (pos m) ≡ true
+positive_within m h = grind (arith, nat_tests)
+
 negative_within : (m : ℕ) → nat_le m (2 ^ 127 - 1) ≡ true → is_within (neg_ℤ (pos m)) ≡ true
 negative_within zero h = refl
 negative_within (suc m) h = grind (arith, nat_tests)
@@ -77,7 +80,7 @@ negative_within (suc m) h = grind (arith, nat_tests)
 integer_bounded : (n : ℕ) (is_one negative : Bool) (m : ℕ) (fits : Bool) → nat_le m (2 ^ 127 - 1) ≡ fits
     → is_bounded n (k.Integer is_one (cond fits (Some (cond negative (neg_ℤ (pos m)) (pos m))) None)) ≡ true
 integer_bounded n is_one negative m false h = refl
-integer_bounded n is_one false m true h = h
+integer_bounded n is_one false m true h = positive_within m h
 integer_bounded n is_one true m true h = negative_within m h
 
 token_bounded : (names : List (List ℕ)) (b : ℕ) (bs : List ℕ) → is_bounded (length names) (token_at (query_word names) b bs).0 ≡ true
