@@ -3,7 +3,8 @@
 use Rattle.std.proofs.Common.{◌≡◌, ℕ, Bool, true, refl, sym, ◌∙◌}
 use Rattle.std.specs.Prelude.{◌↔◌, IsTrue}
 use Rattle.dt_letters.specs.Letters.{Letter, leaf, node}
-use Rattle.dt_letters.specs.Order.{IsBefore, IsEarlier, before, earlier, same_letter}
+use Rattle.dt_letters.specs.Order.{IsBefore, IsEarlier}
+use Rattle.dt_letters.specs.Meeting.{before, earlier, same_letter}
 use Rattle.dt_letters.specs.Allowed.{Exponents, GoesOn, goes_on}
 use Rattle.dt_letters.proofs.Relations.{earlier_test, earlier_of_test, tests_order}
 

@@ -8,7 +8,8 @@ use std::cmp::Ordering;
 
 impl Letters {
     ghost use Rattle.dt_letters.specs.Letters.{depth_of};
-    ghost use Rattle.dt_letters.specs.Order.{meet, before, earlier, IsBefore, IsEarlier, same_letter, order_of, siblings_order};
+    ghost use Rattle.dt_letters.specs.Order.{IsBefore, IsEarlier};
+    ghost use Rattle.dt_letters.specs.Meeting.{meet, before, earlier, same_letter, order_of, siblings_order};
     ghost use Rattle.dt_letters.specs.Arena.{IsTreeOf, letter_in};
 
     /// Whether the letter is before the other.

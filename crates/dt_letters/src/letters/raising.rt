@@ -12,7 +12,7 @@ impl Letters {
     ghost use Rattle.dt_letters.specs.Letters.{leaves, nodes, group_of, number_of, IsBelow};
     ghost use Rattle.dt_letters.specs.Growth.{raise, raised};
     ghost use Rattle.dt_letters.specs.Least.{greatest_in, own_number};
-    ghost use Rattle.dt_letters.specs.Order.{same_group};
+    ghost use Rattle.dt_letters.specs.Meeting.{same_group};
     ghost use Rattle.dt_letters.specs.Arena.{IsExtended, IsTreeOf, IsTreeFor, letter_in};
 
     /// The letter with the numbers of the group of a member one higher, from that of the member on.
@@ -50,7 +50,8 @@ impl Letters {
     pub fn greatest(&self, a: Tree, member: Tree) -> u64
         requires first { IsTreeOf self.now a }
         requires second { IsTreeOf self.now member }
-        ensures { result ≡ greatest_in (group_of (letter_in self.now member)) (letter_in self.now a) }
+        ensures { result ≡ greatest_in (group_of (letter_in self.now member))
+            (letter_in self.now a) }
     {
         let own = self.own_number(a, member);
         match self.form(a) {

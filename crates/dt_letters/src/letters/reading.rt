@@ -11,7 +11,7 @@ use nil_pres::Syllable;
 impl Letters {
     ghost use Rattle.dt_letters.specs.Letters.{kind_of, number_of, depth_of, left_of, right_of};
     ghost use Rattle.dt_letters.specs.Allowed.{exponents_of};
-    ghost use Rattle.dt_letters.specs.Order.{leaf_rank};
+    ghost use Rattle.dt_letters.specs.Meeting.{leaf_rank};
     ghost use Rattle.dt_letters.specs.Arena.{IsTreeOf, letter_in};
 
     /// The left letter of a node.
