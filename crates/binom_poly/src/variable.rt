@@ -3,6 +3,9 @@
 ghost use Rattle.std.specs.Prelude.{◌≡◌, ◌≤◌};
 ghost use Rattle.binom_poly.specs.Variable.{x_of, y_of, z_of};
 
+/// How far the numbers of `x_k`, `y_k` and `z_k` are apart.
+pub const SIDE: u32 = 64;
+
 /// The variable t of step sums.
 pub const STEP_VARIABLE: u32 = 200;
 
@@ -22,7 +25,7 @@ pub fn y_of(k: u32) -> u32
     requires { k ≤ 48 }
     ensures { result ≡ y_of k }
 {
-    64 + k
+    SIDE + k
 }
 
 /// The variable `z_k` of a generator.
@@ -30,5 +33,5 @@ pub fn z_of(k: u32) -> u32
     requires { k ≤ 48 }
     ensures { result ≡ z_of k }
 {
-    128 + k
+    2 * SIDE + k
 }

@@ -1,8 +1,9 @@
 //! The coefficients of a product of two binomial coefficients.
 
-ghost use Rattle.std.specs.Prelude.{◌+◌, ◌*◌, ◌-◌, ◌/◌, ◌^◌, ◌<◌, ◌≤◌, max};
+ghost use Rattle.std.specs.Prelude.{◌+◌, ◌*◌, ◌-◌, ◌/◌, ◌<◌, ◌≤◌, max};
 ghost use Rattle.integer.specs.Binomial.{ways};
-ghost use Rattle.nil_num.specs.Fit.{FitOrPast};
+ghost use Rattle.nil_num.specs.Bound.{Fits, Overflows};
+ghost use Rattle.nil_num.specs.Outcome.{Unless};
 
 use crate::fit::{Past, add_fit, mul_fit};
 
@@ -11,7 +12,7 @@ fn scaled(number: u128, factor: u32, divisor: u32) -> Result<u128, Past>
     requires factor { factor ≤ 1000 }
     requires divisor { 0 < divisor }
     requires small { divisor ≤ 1000 }
-    ensures { FitOrPast result (number * factor / divisor) }
+    ensures { Unless (Overflows (number * factor / divisor)) (number * factor / divisor) result }
 {
     let divisor = divisor as u128;
     let factor = factor as u128;
@@ -21,9 +22,9 @@ fn scaled(number: u128, factor: u32, divisor: u32) -> Result<u128, Past>
 
 // `start` times `n + m` over `m`. The products on the way ascend, so one that overflows shows that the last does.
 fn times_binomial(start: u128, n: u32, m: u32) -> Result<u128, Past>
-    requires within { start < 2 ^ 127 }
+    requires within { Fits start }
     requires small { n + m ≤ 1000 }
-    ensures { FitOrPast result (start * ways (n + m) m) }
+    ensures { Unless (Overflows (start * ways (n + m) m)) (start * ways (n + m) m) result }
 {
     let mut product = start;
     for j in 0..m {
@@ -37,7 +38,7 @@ pub fn product_coefficient(a: u32, b: u32, k: u32) -> Result<u128, Past>
     requires from { max a b ≤ k }
     requires to { k ≤ a + b }
     requires small { a + b ≤ 1000 }
-    ensures { FitOrPast result (ways k a * ways a (k - b)) }
+    ensures { Unless (Overflows (ways k a * ways a (k - b))) (ways k a * ways a (k - b)) result }
 {
     let inner = times_binomial(1, a + b - k, k - b)?;
     times_binomial(inner, a, k - a)

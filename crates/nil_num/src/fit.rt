@@ -1,7 +1,8 @@
 //! Sums and products that stay within `MAX`.
 
 ghost use Rattle.std.specs.Prelude.{◌+◌, ◌*◌};
-ghost use Rattle.nil_num.specs.Fit.{FitOrPast};
+ghost use Rattle.nil_num.specs.Bound.{Overflows};
+ghost use Rattle.nil_num.specs.Outcome.{Unless};
 
 use thiserror::Error;
 
@@ -15,7 +16,7 @@ pub struct Past;
 
 /// The sum, where it is at most `MAX`.
 pub fn add_fit(a: u128, b: u128) -> Result<u128, Past>
-    ensures { FitOrPast result (a + b) }
+    ensures { Unless (Overflows (a + b)) (a + b) result }
 {
     match a.checked_add(b) {
         Some(sum) if sum <= MAX as u128 => Ok(sum),
@@ -25,7 +26,7 @@ pub fn add_fit(a: u128, b: u128) -> Result<u128, Past>
 
 /// The product, where it is at most `MAX`.
 pub fn mul_fit(a: u128, b: u128) -> Result<u128, Past>
-    ensures { FitOrPast result (a * b) }
+    ensures { Unless (Overflows (a * b)) (a * b) result }
 {
     match a.checked_mul(b) {
         Some(product) if product <= MAX as u128 => Ok(product),

@@ -1,8 +1,9 @@
 //! Rows of binomial coefficients of one number.
 
-ghost use Rattle.std.specs.Prelude.{◌≡◌, ◌+◌, ◌*◌, ◌^◌, ◌<◌, ◌≤◌, MatchOption, OnOk, IfErr, unsigned_abs, length};
+ghost use Rattle.std.specs.Prelude.{◌≡◌, ◌+◌, ◌*◌, ◌<◌, ◌≤◌, MatchOption, OnOk, IfErr, unsigned_abs, length};
 ghost use Rattle.integer.specs.Binomial.{choose};
-ghost use Rattle.nil_num.specs.Row.{IsWithinMax, IsRow, OverflowsAt, written_product};
+ghost use Rattle.nil_num.specs.Bound.{Overflows, IsNumber};
+ghost use Rattle.nil_num.specs.Row.{IsRow, OverflowsAt, written_product};
 
 use thiserror::Error;
 
@@ -18,8 +19,8 @@ fn next_binomial(x: i128, entry: i128, k: u32) -> Option<i128>
     requires entry { entry ≡ choose x k }
     requires small { k < 1000 }
     ensures { MatchOption result
-        (2 ^ 127 ≤ unsigned_abs (written_product x k))
-        (λ next. IsWithinMax (written_product x k) × (next ≡ choose x (k + 1))) }
+        (Overflows (unsigned_abs (written_product x k)))
+        (λ next. IsNumber (written_product x k) × (next ≡ choose x (k + 1))) }
 {
     let Some(factor) = x.checked_sub(k as i128) else {
         return None;
@@ -41,7 +42,7 @@ fn next_binomial(x: i128, entry: i128, k: u32) -> Option<i128>
 pub fn binomial_row(x: i128, row: &mut [i128]) -> Result<(), PastAt>
     requires nonempty { 0 < length row.old }
     requires short { length row.old ≤ 1001 }
-    requires number { IsWithinMax x }
+    requires number { IsNumber x }
     ensures written { OnOk result (IsRow x (length row.old) row.new) }
     ensures past { IfErr result (λ past. OverflowsAt x past.place row.old row.new) }
 {

@@ -1,6 +1,7 @@
 use Rattle.std.proofs.Common.{arith, ◌+◌, ◌*◌, ◌/◌, ◌%◌, ℕ, ap, ◌∙◌, sym, subst}
 use Rattle.std.proofs.lemmas.Result.{err_from_is_err_and}
-use Rattle.nil_num.specs.Fit.{FitOrPast}
+use Rattle.nil_num.specs.Bound.{Overflows}
+use Rattle.nil_num.specs.Outcome.{Unless}
 use Rattle.nil_num.proofs.Coefficients.{mul-div_parts}
 use Rattle.nil_num.proofs.coefficient.scaled.Goals as goal
 
@@ -11,6 +12,6 @@ returns-in_err-whole c =
 
 pub returns : goal.returns
 returns c =
-    subst (λ (n : ℕ). FitOrPast c.add_fit.result n)
+    subst (λ (n : ℕ). Unless (Overflows n) n c.add_fit.result)
     (ap (λ (n : ℕ). n + c.args.number % c.args.divisor * c.args.factor / c.args.divisor) (c.in_ok-whole.ensures.0) ∙ sym (mul-div_parts c.args.number c.args.factor c.args.divisor c.requires.divisor))
     c.add_fit.ensures
