@@ -10,7 +10,7 @@ use Rattle.hall_law.specs.Quadratic.{cross_term, quadratic_entry, quadratic}
 use Rattle.nil_pres.specs.Presented.{Presented, IsPresented, right_side}
 use Rattle.nil_pres.specs.Relations.{relations_of}
 use Rattle.binom_poly.specs.Polynomial.{value_of}
-use Rattle.hall_table.specs.Shape.{y_of}
+use Rattle.binom_poly.specs.Variable.{y_of}
 use Rattle.hall_table.specs.Tabled.{poly_at}
 use Rattle.hall_table.specs.Values.{point_of, values}
 use Rattle.central_table.specs.Central.{exponent, central_poly, central_table}

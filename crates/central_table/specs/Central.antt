@@ -22,7 +22,8 @@ use Rattle.binom_poly.specs.declared.part.Part.{Part}
 use Rattle.binom_poly.specs.declared.term.Term.{Term}
 use Rattle.binom_poly.specs.Collected.{with_term}
 use Rattle.binom_poly.specs.Times.{contribution}
-use Rattle.hall_table.specs.Shape.{y_of, alone}
+use Rattle.binom_poly.specs.Variable.{y_of}
+use Rattle.hall_table.specs.Shape.{alone}
 use Rattle.hall_table.specs.Tabled.{Tabled}
 
 abbrev pub generators : Presented → List ℕ
