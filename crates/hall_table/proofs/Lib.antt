@@ -11,3 +11,4 @@ pub mod Dropping
 pub mod Splitting
 pub mod Entries
 pub mod OneTable
+pub mod OfShape

@@ -12,7 +12,7 @@ use std::alloc::Global;
 use std::marker::Model;
 
 /// The greatest number of generators.
-pub(super) const GENERATOR_LIMIT: usize = 48;
+pub const GENERATOR_LIMIT: usize = 48;
 
 /// A multiplication table's polynomials: for each generator from its level on one, which is
 /// `x_k + y_k` plus terms in variables of generators from the level on and below `k`.

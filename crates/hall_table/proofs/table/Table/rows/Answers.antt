@@ -1,7 +1,7 @@
 use Rattle.std.proofs.Common.{◌≡◌, ℕ, ◌≤◌, ◌+◌, ◌∙◌, sym, ap, subst, arith}
 use Rattle.std.specs.Prelude.{All, List}
 use Rattle.std.proofs.lemmas.Result.{IfOk-weaker}
-use lib.IntN.{ℤ, pos}
+use lib.IntN.{pos}
 use Rattle.binom_poly.specs.Monomial.{IsVariable}
 use Rattle.binom_poly.specs.Reading.{Reading}
 use Rattle.binom_poly.specs.Readings.{reading_at, value_at, width_of}
