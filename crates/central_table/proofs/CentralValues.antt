@@ -16,7 +16,7 @@ use Rattle.hall_table.specs.Values.{point_of, values}
 use Rattle.central_table.specs.Central.{exponent, central_poly, central_table}
 use Rattle.central_table.proofs.CentralPolys.{poly_at-central_table, last_of-central_table}
 use Rattle.central_table.proofs.Exponents.{count-right_side}
-use Rattle.central_table.proofs.CrossSums.{by_second, by_first, by_second-first}
+use Rattle.integer.proofs.PairSums.{by_second, by_first, by_second-first}
 use Rattle.central_table.proofs.CrossTerms.{cross, value-central_poly}
 
 point-x : (x y : List ℤ) (k : ℕ) → k ≤ 48 → point_of x y k ≡ entry x k

@@ -22,7 +22,7 @@ use Rattle.binom_poly.proofs.Times.{value-append}
 use Rattle.binom_poly.specs.Variable.{y_of}
 use Rattle.hall_table.specs.Shape.{alone}
 use Rattle.central_table.specs.Central.{row, pairs, exponent, crossed, cross_terms, central_poly}
-use Rattle.central_table.proofs.CrossSums.{by_second}
+use Rattle.integer.proofs.PairSums.{by_second}
 
 choose_one : (x : ℤ) → choose x 1 ≡ x
 choose_one x =
