@@ -13,8 +13,8 @@ use Rattle.nil_word.specs.Factors.{word_of}
 use Rattle.nil_pres.specs.declared.syllable.Syllable.{Syllable}
 use Rattle.nil_pres.specs.Presented.{Presented, right_of}
 use Rattle.nil_pres.specs.Relations.{factors_of, is_pair, between, relations_of}
-use Rattle.central_table.specs.Central.{row, commute, is_central, are_central, first_bad, not_central}
-use Rattle.central_table.proofs.FirstBad.{first_bad-parts}
+use Rattle.central_table.specs.Central.{row, commute, is_central, are_central, first_outside, not_central}
+use Rattle.central_table.proofs.FirstOutside.{first_outside-parts}
 
 both : (a b : Bool) → (a && b) ≡ true → (a ≡ true) × (b ≡ true)
 both true b h = (refl, h)
@@ -44,26 +44,26 @@ none_after true x rest h = (refl, h)
 none_after false x rest h = cc
 
 row_central : (p : Presented) (j d low k : ℕ)
-    → first_bad p (map (λ i. (i, j)) (numbers low d)) ≡ None
+    → first_outside p (map (λ i. (i, j)) (numbers low d)) ≡ None
     → low ≤ k → k < low + d → are_central p (right_of p k j) ≡ true
 row_central p j zero low k h a b = absurd (omega arith)
 row_central p j (suc d) low k h a b =
     let parts =
     none_after (are_central p (right_of p low j)) (low, j)
-    (first_bad p (map (λ i. (i, j)) (numbers (suc low) d))) h in
+    (first_outside p (map (λ i. (i, j)) (numbers (suc low) d))) h in
     elim (eq-or-lt_of_le a) as (λ _. are_central p (right_of p k j) ≡ true) [
       | inl same ↦ ap (λ (i : ℕ). are_central p (right_of p i j)) (sym same) ∙ parts.0
       | inr less ↦ row_central p j d (suc low) k parts.1 less (omega arith)
     ]
 
 rows_central : (p : Presented) (d low j : ℕ)
-    → first_bad p (flat_map row (numbers low d)) ≡ None
-    → low ≤ j → j < low + d → first_bad p (row j) ≡ None
+    → first_outside p (flat_map row (numbers low d)) ≡ None
+    → low ≤ j → j < low + d → first_outside p (row j) ≡ None
 rows_central p zero low j h a b = absurd (omega arith)
 rows_central p (suc d) low j h a b =
-    let parts = first_bad-parts p (row low) (flat_map row (numbers (suc low) d)) h in
-    elim (eq-or-lt_of_le a) as (λ _. first_bad p (row j) ≡ None) [
-      | inl same ↦ ap (λ (k : ℕ). first_bad p (row k)) (sym same) ∙ parts.0
+    let parts = first_outside-parts p (row low) (flat_map row (numbers (suc low) d)) h in
+    elim (eq-or-lt_of_le a) as (λ _. first_outside p (row j) ≡ None) [
+      | inl same ↦ ap (λ (k : ℕ). first_outside p (row k)) (sym same) ∙ parts.0
       | inr less ↦ rows_central p d (suc low) j parts.1 less (omega arith)
     ]
 

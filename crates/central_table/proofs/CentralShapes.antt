@@ -14,7 +14,8 @@ use Rattle.binom_poly.specs.declared.term.Term.{Term}
 use Rattle.binom_poly.specs.Monomial.{IsMonomial, IsMonomialAbove, IsVariable, monomial_cmp}
 use Rattle.binom_poly.specs.Polynomial.{IsTerm, IsPolynomial, IsPolynomialFrom}
 use Rattle.binom_poly.specs.Times.{contribution}
-use Rattle.hall_table.specs.Shape.{y_of, alone, is_alone, coefficient_of, is_lower, AreLower, HasShape}
+use Rattle.binom_poly.specs.Variable.{y_of}
+use Rattle.hall_table.specs.Shape.{alone, is_alone, coefficient_of, is_lower, AreLower, HasShape}
 use Rattle.hall_table.proofs.Shapes.{is_alone-alone}
 use Rattle.hall_table.proofs.Widths.{x_variable, y_variable}
 use Rattle.central_table.specs.Central.{pairs, exponent, crossed, cross_terms, central_poly}

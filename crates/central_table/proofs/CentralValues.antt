@@ -10,13 +10,13 @@ use Rattle.hall_law.specs.Quadratic.{cross_term, quadratic_entry, quadratic}
 use Rattle.nil_pres.specs.Presented.{Presented, IsPresented, right_of}
 use Rattle.nil_pres.specs.Relations.{relations_of}
 use Rattle.binom_poly.specs.Polynomial.{value_of}
-use Rattle.hall_table.specs.Shape.{y_of}
+use Rattle.binom_poly.specs.Variable.{y_of}
 use Rattle.hall_table.specs.Tabled.{poly_at}
 use Rattle.hall_table.specs.Values.{point_of, values}
 use Rattle.central_table.specs.Central.{exponent, central_poly, central_table}
 use Rattle.central_table.proofs.CentralPolys.{poly_at-central_table, last_of-central_table}
 use Rattle.central_table.proofs.Exponents.{exponent-right_of}
-use Rattle.central_table.proofs.CrossSums.{by_second, by_first, by_second-first}
+use Rattle.integer.proofs.PairSums.{by_second, by_first, by_second-first}
 use Rattle.central_table.proofs.CrossTerms.{cross, value-central_poly}
 
 point-x : (x y : List ℤ) (k : ℕ) → k ≤ 48 → point_of x y k ≡ entry x k

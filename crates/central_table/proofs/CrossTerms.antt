@@ -19,9 +19,10 @@ use Rattle.binom_poly.specs.Collected.{with_term}
 use Rattle.binom_poly.specs.Times.{contribution}
 use Rattle.binom_poly.proofs.Canonical.{value-var_terms}
 use Rattle.binom_poly.proofs.Times.{value-append}
-use Rattle.hall_table.specs.Shape.{y_of, alone}
+use Rattle.binom_poly.specs.Variable.{y_of}
+use Rattle.hall_table.specs.Shape.{alone}
 use Rattle.central_table.specs.Central.{row, pairs, exponent, crossed, cross_terms, central_poly}
-use Rattle.central_table.proofs.CrossSums.{by_second}
+use Rattle.integer.proofs.PairSums.{by_second}
 
 choose_one : (x : ℤ) → choose x 1 ≡ x
 choose_one x =

@@ -1,9 +1,8 @@
 pub mod Numbers
 pub mod Appending
-pub mod FirstBad
+pub mod FirstOutside
 pub mod CentralForm
 pub mod Exponents
-pub mod CrossSums
 pub mod CrossTerms
 pub mod PairOrder
 pub mod CentralShapes

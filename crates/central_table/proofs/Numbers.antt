@@ -11,7 +11,7 @@ numbers_next low high h =
     let more : suc low ≡ low + 1 = omega arith in
     ap (numbers low) one ∙ ap (λ (k : ℕ). low ∷ numbers k (high - (low + 1))) more
 
--- a test of the numbers from low on, where low overflows
+-- a test of the numbers from low on, which low meets
 pub list_all-next : (test : ℕ → Bool) (low high : ℕ) → low < high → test low ≡ true
     → list_all test (numbers low (high - low))
     ≡ list_all test (numbers (low + 1) (high - (low + 1)))

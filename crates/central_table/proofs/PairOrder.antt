@@ -8,7 +8,8 @@ use Rattle.std.specs.Ordering.{nat_cmp, ordering_then}
 use Rattle.nil_word.specs.Exponents.{numbers}
 use Rattle.nil_pres.specs.Presented.{Presented, IsPresented}
 use Rattle.binom_poly.specs.Monomial.{degree, monomial_cmp}
-use Rattle.hall_table.specs.Shape.{y_of, alone}
+use Rattle.binom_poly.specs.Variable.{y_of}
+use Rattle.hall_table.specs.Shape.{alone}
 use Rattle.central_table.specs.Central.{row, pairs, crossed}
 
 -- the place of a pair in the order of the pairs

@@ -1,11 +1,12 @@
 -- Central presentations, and their tables.
 --   generators p          the numbers 1 to n
---   row j                 the pairs (i, j) with i below j
+--   row j                 the pairs (i, j) with i below j, i ascending
 --   pairs p               all pairs (i, j) with i < j, j ascending and then i
 --   commute p k l         the listed relation of a_k and a_l has an empty right side
 --   is_central p k        a_k commutes with each generator by the listed relations
 --   are_central p right   each generator of a right side is central
---   first_bad p pairs     the first of the pairs with a right side whose generators aren't all central
+--   first_outside p qs    the first of the pairs qs whose right side has a generator that isn't
+--                         central
 --   not_central p         the first of all pairs; None where the presentation is central
 --   exponent k right      the exponent of a_k in a right side
 --   crossed pair          the monomial x_j y_i of a pair (i, j)
@@ -13,6 +14,7 @@
 --                         term where it is 0
 --   central_poly p k      f_k: x_k, y_k, and then the terms of all pairs
 --   central_table p       the table of all f_k, of level 1
+-- p presentation · i < j generators · k l generators · each pair (i, j) has the lower one first
 use Rattle.std.specs.Prelude.{ℕ, ◌-◌, Bool, true, ◌==◌, nat_lt, if◌then◌else◌, ℤ, pos, List, [], ◌∷◌, length, map, flat_map, Option, Some, None}
 use Rattle.std.specs.List.{list_all}
 use Rattle.nil_word.specs.Exponents.{numbers}
@@ -22,7 +24,8 @@ use Rattle.binom_poly.specs.declared.part.Part.{Part}
 use Rattle.binom_poly.specs.declared.term.Term.{Term}
 use Rattle.binom_poly.specs.Collected.{with_term}
 use Rattle.binom_poly.specs.Times.{contribution}
-use Rattle.hall_table.specs.Shape.{y_of, alone}
+use Rattle.binom_poly.specs.Variable.{y_of}
+use Rattle.hall_table.specs.Shape.{alone}
 use Rattle.hall_table.specs.Tabled.{Tabled}
 
 abbrev pub generators : Presented → List ℕ
@@ -45,13 +48,13 @@ is_central p k = list_all (commute p k) (generators p)
 abbrev pub are_central : Presented → List Syllable → Bool
 are_central p right = list_all (λ s. is_central p s.number) right
 
-abbrev pub first_bad : Presented → List (ℕ × ℕ) → Option (ℕ × ℕ)
-first_bad p [] = None
-first_bad p (pair ∷ rest) =
-    if are_central p (right_of p pair.0 pair.1) then first_bad p rest else Some pair
+abbrev pub first_outside : Presented → List (ℕ × ℕ) → Option (ℕ × ℕ)
+first_outside p [] = None
+first_outside p (pair ∷ rest) =
+    if are_central p (right_of p pair.0 pair.1) then first_outside p rest else Some pair
 
 abbrev pub not_central : Presented → Option (ℕ × ℕ)
-not_central p = first_bad p (pairs p)
+not_central p = first_outside p (pairs p)
 
 abbrev pub exponent : ℕ → List Syllable → ℤ
 exponent k [] = pos 0

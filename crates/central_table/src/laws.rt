@@ -11,8 +11,8 @@ ghost use Rattle.central_table.specs.Central.{central_table, not_central};
 use hall_law::laws::central;
 use hall_table::presentations::relations;
 
-/// The table of a presentation has the form and the generators of a table, and where the presentation
-/// is central it multiplies in it. (In a group of class 2 the commutator is bilinear.)
+/// The table of a presentation has the form and the generators of a table, and where the
+/// presentation is central it multiplies in it. (In a group of class 2 the commutator is bilinear.)
 pub fn central_tables()
     ensures tabled { (p : Presented) → IsPresented p → IsTabled (central_table p) }
     ensures last { (p : Presented) → last_of (central_table p) ≡ length p.names }

@@ -1,12 +1,13 @@
 //! The first pair outside the central form.
 
 ghost use Rattle.std.specs.Prelude.{◌≡◌, ◌≤◌, length, All, option_map};
-ghost use Rattle.central_table.specs.Central.{are_central, commute, first_bad, is_central, not_central, row};
+ghost use Rattle.central_table.specs.Central.{are_central, commute, first_outside, is_central, not_central, row};
 
 use nil_pres::{Presentation, Syllable};
 
-/// The first pair (i, j), j ascending and then i, whose right side has a generator that isn't
-/// central by the listed relations. There is none exactly where the presentation is central.
+/// The first pair, j ascending and then i, whose right side has a generator that isn't central by
+/// the listed relations. It is answered as (i, j), the lower generator first, so i < j. There is
+/// none exactly where the presentation is central.
 pub fn first_outside(pres: &Presentation) -> Option<(u32, u32)>
     ensures { result ≡ not_central pres.now }
 {
@@ -18,10 +19,10 @@ pub fn first_outside(pres: &Presentation) -> Option<(u32, u32)>
     None
 }
 
-/// The first i below j.
+/// The first i below j whose right side has one.
 fn first_in_row(pres: &Presentation, j: u32) -> Option<u32>
     requires { j ≤ length pres.now.names }
-    ensures { option_map (λ i. (i, j)) result ≡ first_bad pres.now (row j) }
+    ensures { option_map (λ i. (i, j)) result ≡ first_outside pres.now (row j) }
 {
     for i in 1..j {
         if !is_central_right(pres, pres.right_side(j, i)) {

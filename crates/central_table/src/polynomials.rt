@@ -8,13 +8,10 @@ ghost use Rattle.hall_table.specs.Shape.{alone};
 ghost use Rattle.nil_pres.specs.Presented.{IsPresented};
 ghost use Rattle.central_table.specs.Central.{central_poly, cross_terms, crossed, exponent, generators, row};
 
-use binom_poly::{Monomial, Part, Poly, Term};
-use hall_table::Memory;
+use binom_poly::{Monomial, Part, Poly, Term, y_of};
+use hall_table::{GENERATOR_LIMIT, Memory};
 use nil_pres::{Presentation, Syllable};
 use std::alloc::Global;
-
-// The number of the variable `y_k` is this above that of `x_k`.
-const Y: u32 = 64;
 
 /// The polynomials of all generators.
 pub(crate) fn central_polys(alloc: Global, pres: &Presentation) -> Result<Vec<Poly>, Memory>
@@ -30,7 +27,7 @@ pub(crate) fn central_polys(alloc: Global, pres: &Presentation) -> Result<Vec<Po
     Ok(polys)
 }
 
-// The polynomial of a generator.
+/// The polynomial of a generator.
 fn central_poly(alloc: Global, pres: &Presentation, k: u32) -> Result<Poly, Memory>
     requires least { 1 ≤ k }
     requires most { k ≤ length pres.now.names }
@@ -39,14 +36,14 @@ fn central_poly(alloc: Global, pres: &Presentation, k: u32) -> Result<Poly, Memo
     let count = pres.count();
     let mut terms = Vec::new(alloc);
     terms.push(variable(alloc, k)?)?;
-    terms.push(variable(alloc, Y + k)?)?;
+    terms.push(variable(alloc, y_of(k))?)?;
     for j in 1..count + 1 {
         push_row(alloc, pres, k, j, &mut terms)?;
     }
     Ok(Poly::of(terms))
 }
 
-// The term of a variable alone.
+/// The term of a variable alone.
 fn variable(alloc: Global, v: u32) -> Result<Term, Memory>
     requires { IsVariable v }
     ensures { IfOk result (λ t. t ≡ contribution (alone v) (pos 1)) }
@@ -59,7 +56,7 @@ fn variable(alloc: Global, v: u32) -> Result<Term, Memory>
     })
 }
 
-// Appends the terms of a generator's pairs with lower ones.
+/// Appends the terms of a generator's pairs with lower ones.
 fn push_row(
     alloc: Global,
     pres: &Presentation,
@@ -68,7 +65,7 @@ fn push_row(
     terms: &mut Vec<Term>,
 ) -> Result<(), Memory>
     requires most { j ≤ length pres.now.names }
-    requires few { j ≤ 48 }
+    requires few { j ≤ GENERATOR_LIMIT }
     ensures ok { OnOk result
         (terms.new.items ≡ terms.old.items ++ flat_map (cross_terms pres.now k) (row j)) }
 {
@@ -79,11 +76,11 @@ fn push_row(
     Ok(())
 }
 
-// Appends `c x_j y_i`, where c isn't 0.
+/// Appends `c x_j y_i`, where c isn't 0.
 fn push_product(alloc: Global, j: u32, i: u32, c: i64, terms: &mut Vec<Term>) -> Result<(), Memory>
     requires least { 1 ≤ i }
     requires below { i < j }
-    requires most { j ≤ 48 }
+    requires most { j ≤ GENERATOR_LIMIT }
     ensures ok { OnOk result
         (terms.new.items ≡ terms.old.items ++ with_term (crossed (i, j)) c []) }
 {
@@ -92,7 +89,10 @@ fn push_product(alloc: Global, j: u32, i: u32, c: i64, terms: &mut Vec<Term>) ->
     }
     let mut parts = Vec::new(alloc);
     parts.push(Part { var: j, exp: 1 })?;
-    parts.push(Part { var: Y + i, exp: 1 })?;
+    parts.push(Part {
+        var: y_of(i),
+        exp: 1,
+    })?;
     terms.push(Term {
         monomial: Monomial::of(parts),
         coefficient: c as i128,
@@ -100,7 +100,7 @@ fn push_product(alloc: Global, j: u32, i: u32, c: i64, terms: &mut Vec<Term>) ->
     Ok(())
 }
 
-// The exponent of a generator in a right side.
+/// The exponent of a generator in a right side.
 fn exponent_of(right: &[Syllable], k: u32) -> i64
     ensures { result ≡ exponent k right.now }
 {

@@ -8,7 +8,7 @@ use nil_pres::{Builder, Presentation, Syllable};
 use std::alloc::Global;
 use std::test::Fail;
 
-// Three generators with [a2,a1] = a3^exp.
+/// Three generators with [a2,a1] = a3^exp.
 fn class_two(alloc: Global, exp: i64) -> Result<Presentation, Fail>
     ensures { IfOk result (λ p. length p.names ≡ 3) }
 {
@@ -21,7 +21,7 @@ fn class_two(alloc: Global, exp: i64) -> Result<Presentation, Fail>
     Ok(pres)
 }
 
-// The text of the third polynomial.
+/// The text of the third polynomial.
 fn third_text(alloc: Global, exp: i64) -> Result<String, Fail> {
     let pres = class_two(alloc, exp)?;
     let table = central_table(alloc, &pres)?;
@@ -37,7 +37,7 @@ fn a_commutator_gives_a_product_of_variables(rt: HostRuntime) -> Result<(), Fail
     Ok(())
 }
 
-// Five generators with [a3,a2] = a4 and [a4,a1] = a5.
+/// Five generators with [a3,a2] = a4 and [a4,a1] = a5.
 fn class_three(alloc: Global) -> Result<Presentation, Fail> {
     let mut builder = Builder::new(alloc)?;
     builder.add_name("a1")?;

@@ -13,7 +13,8 @@ use Rattle.binom_poly.specs.Reading.{Reading}
 use Rattle.binom_poly.specs.Readings.{width_at, IsCoveredMonomial, IsCovered}
 use Rattle.binom_poly.proofs.Sorting.{polynomial_terms}
 use Rattle.binom_poly.proofs.Unique.{exponent_here, exponent_later}
-use Rattle.hall_table.specs.Shape.{y_of, alone, is_alone, is_lower, AreLower}
+use Rattle.binom_poly.specs.Variable.{y_of}
+use Rattle.hall_table.specs.Shape.{alone, is_alone, is_lower, AreLower}
 use Rattle.hall_table.specs.Tabled.{Tabled, IsTabled, last_of, poly_at}
 use Rattle.hall_table.specs.Width.{greatest_exponent, greatest_in, has_row, width_for, HasRows}
 use Rattle.hall_table.proofs.Shapes.{alone_is, not_alone}

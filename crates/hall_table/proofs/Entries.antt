@@ -15,7 +15,8 @@ use Rattle.hall_law.proofs.Vectors.{IsAt, at_of}
 use Rattle.binom_poly.specs.declared.part.Part.{Part}
 use Rattle.binom_poly.specs.declared.term.Term.{Term}
 use Rattle.binom_poly.specs.Polynomial.{value_of}
-use Rattle.hall_table.specs.Shape.{y_of, is_lower, AreLower}
+use Rattle.binom_poly.specs.Variable.{y_of}
+use Rattle.hall_table.specs.Shape.{is_lower, AreLower}
 use Rattle.hall_table.specs.Tabled.{Tabled, IsTabled, last_of, poly_at}
 use Rattle.hall_table.specs.Tail.{is_from, tail_of, at_level}
 use Rattle.hall_table.specs.Values.{point_of, values}

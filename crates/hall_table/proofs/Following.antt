@@ -1,7 +1,7 @@
 -- What the loops of a product keep.
 --   t table · place the variable of a generator · v a b vectors · k j generators · x number
-use Rattle.std.proofs.Common.{◌≡◌, ◌≢◌, ℕ, ◌+◌, ◌-◌, ◌^◌, ◌<◌, ◌≤◌, Bool, true, false, cond, List, length, map, sym, ap, ◌∙◌, subst, arith, below_more}
-use Rattle.std.specs.Prelude.{unsigned_abs, Some, None, option_map, slice_get}
+use Rattle.std.proofs.Common.{◌≡◌, ◌≢◌, ℕ, ◌+◌, ◌-◌, ◌<◌, ◌≤◌, Bool, true, false, cond, List, length, map, sym, ap, ◌∙◌, subst, arith, below_more}
+use Rattle.std.specs.Prelude.{Some, None, option_map, slice_get}
 use Rattle.std.proofs.lemmas.Option.{get_or_from_slice_get}
 use lib.IntN.{ℤ, pos}
 use lib.Dec.{ltb}
@@ -10,10 +10,12 @@ use Rattle.hall_law.proofs.Entries.{same_entries, length-map_numbers, entry-map_
 use Rattle.binom_poly.specs.Polynomial.{value_of}
 use Rattle.binom_poly.specs.Reading.{Reading}
 use Rattle.binom_poly.specs.Readings.{value_at, width_at, with_value}
+use Rattle.nil_num.specs.Bound.{IsNumber}
+use Rattle.nil_num.specs.First.{first_from}
 use Rattle.hall_table.specs.declared.wide_at.WideAt.{WideAt}
 use Rattle.hall_table.specs.Tabled.{Tabled, IsTabled, last_of, poly_at}
 use Rattle.hall_table.specs.Width.{width_for, HasRows}
-use Rattle.hall_table.specs.Order.{first_from, generators, row_overflows, sum_overflows}
+use Rattle.hall_table.specs.Order.{generators, row_overflows, sum_overflows}
 use Rattle.hall_table.proofs.Orders.{first_found, first_none}
 use Rattle.hall_table.proofs.Putting.{HasRows-with_value, value-same, value-other}
 
@@ -57,7 +59,7 @@ named_first place p t k at h low high before e f =
 pub record SumsSoFar (t : Tabled) (a : ℕ → ℤ) (sums : List ℤ) (k : ℕ) : Type 0 where
   pub fits : (j : ℕ) → j < k → t.level ≤ j → sum_overflows a (poly_at t j) ≡ false
   pub made : (j : ℕ) → j < k → t.level ≤ j
-      → (entry sums j ≡ value_of a (poly_at t j)) × (unsigned_abs (entry sums j) < 2 ^ 127)
+      → (entry sums j ≡ value_of a (poly_at t j)) × IsNumber (entry sums j)
 
 pub all_sums : (t : Tabled) (a : ℕ → ℤ) (sums : List ℤ) (k end : ℕ) → IsTabled t → SumsSoFar t a sums k
     → end ≡ last_of t + 1 → end ≤ k → first_from t.level (generators t) (λ j. sum_overflows a (poly_at t j)) ≡ None

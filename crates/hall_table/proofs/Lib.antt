@@ -12,3 +12,4 @@ pub mod Splitting
 pub mod Entries
 pub mod Factoring
 pub mod OneTable
+pub mod OfShape

@@ -1,7 +1,7 @@
 -- The product as the written order gives it.
 --   t table · a b vectors · rows rows with their entries · k generator · v variable · p q tests
-use Rattle.std.proofs.Common.{◌≡◌, ℕ, zero, suc, ◌+◌, ◌-◌, ◌^◌, ◌<◌, ◌≤◌, Bool, true, false, cond, List, ◌∷◌, length, map, refl, sym, ap, ◌∙◌, arith, ◌⊎◌, inl, inr}
-use Rattle.std.specs.Prelude.{unsigned_abs, Option, Some, None, Result, Ok, Err, option_map, All, IsTrue, nat_le}
+use Rattle.std.proofs.Common.{◌≡◌, ℕ, zero, suc, ◌+◌, ◌-◌, ◌<◌, ◌≤◌, Bool, true, false, cond, List, ◌∷◌, length, map, refl, sym, ap, ◌∙◌, arith, ◌⊎◌, inl, inr}
+use Rattle.std.specs.Prelude.{Option, Some, None, Result, Ok, Err, option_map, All, IsTrue}
 use Rattle.std.proofs.lemmas.Bool.{cases_Bool}
 use Rattle.std.proofs.lemmas.Bool.Decides.{nat_tests}
 use Rattle.std.proofs.lemmas.List.Elements.{All-weaker}
@@ -13,12 +13,15 @@ use Rattle.binom_poly.specs.declared.term.Term.{Term}
 use Rattle.binom_poly.specs.Polynomial.{value_of}
 use Rattle.binom_poly.specs.Reading.{Reading}
 use Rattle.binom_poly.specs.Readings.{value_at}
+use Rattle.binom_poly.specs.Variable.{y_of}
+use Rattle.nil_num.specs.Bound.{IsNumber, overflows}
+use Rattle.nil_num.specs.First.{first_from}
 use Rattle.hall_table.specs.declared.wide_at.WideAt.{WideAt}
 use Rattle.hall_table.specs.declared.wide_at.WideAt.TheVariants.{RowX, RowY, Sum}
-use Rattle.hall_table.specs.Shape.{y_of, is_lower, AreLower}
+use Rattle.hall_table.specs.Shape.{IsX, is_lower, AreLower}
 use Rattle.hall_table.specs.Tabled.{Tabled, IsTabled, last_of, poly_at}
 use Rattle.hall_table.specs.Values.{point_of, values}
-use Rattle.hall_table.specs.Order.{first_from, generators, named, sum_overflows, x_overflows, y_overflows, sum_at_overflows, multiplied}
+use Rattle.hall_table.specs.Order.{generators, named, sum_overflows, x_overflows, y_overflows, sum_at_overflows, multiplied}
 use Rattle.hall_table.proofs.Covering.{poly_lower}
 use Rattle.hall_table.proofs.Putting.{Agree, value-agree, magnitude-agree}
 
@@ -30,7 +33,7 @@ pub record Hold (t : Tabled) (a b : List ℤ) (rows : List Reading) : Type 0 whe
 pub rows_hold : (t : Tabled) (a b : List ℤ) (one two : List Reading) → IsTabled t
     → ((k : ℕ) → t.level ≤ k → k ≤ last_of t → value_at one k ≡ entry a k)
     → ((k : ℕ) → t.level ≤ k → k ≤ last_of t → value_at two (y_of k) ≡ entry b k)
-    → ((v : ℕ) → v < 64 → value_at two v ≡ value_at one v) → Hold t a b two
+    → ((v : ℕ) → IsX v → value_at two v ≡ value_at one v) → Hold t a b two
 rows_hold t a b one two h x y kept =
     let most : t.level + length t.polys ≤ 49 = h.most in
     record { x = λ k l m. kept k (omega arith) ∙ x k l m; y = y }
@@ -45,7 +48,7 @@ below_64 v h = grind (arith, nat_tests)
 not_below_64 : (v : ℕ) → 64 ≤ v → ltb v 64 ≡ false
 not_below_64 v h = grind (arith, nat_tests)
 
-agree_at : (t : Tabled) (a b : List ℤ) (rows : List Reading) (v : ℕ) → IsTabled t → Hold t a b rows
+pub agree_at : (t : Tabled) (a b : List ℤ) (rows : List Reading) (v : ℕ) → IsTabled t → Hold t a b rows
     → is_lower t.level (last_of t + 1) v ≡ true → value_at rows v ≡ point_of a b v
 agree_at t a b rows v h r l =
     let most : t.level + length t.polys ≤ 49 = h.most in
@@ -61,7 +64,7 @@ agree_at t a b rows v h r l =
           ∙ sym (ap (λ (c : Bool). cond c (entry a v) (entry b (v - 64))) (not_below_64 v (omega arith)))
     ]
 
-points_agree : (t : Tabled) (a b : List ℤ) (rows : List Reading) (k : ℕ) → IsTabled t → Hold t a b rows → t.level ≤ k
+pub points_agree : (t : Tabled) (a b : List ℤ) (rows : List Reading) (k : ℕ) → IsTabled t → Hold t a b rows → t.level ≤ k
     → k ≤ last_of t → All (λ u. Agree (value_at rows) (point_of a b) u.monomial) (poly_at t k)
 points_agree t a b rows k h r low high =
     All-weaker (λ (u : Term). AreLower t.level (last_of t + 1) u.monomial)
@@ -86,7 +89,7 @@ sums_same : (t : Tabled) (a b : List ℤ) (rows : List Reading) → IsTabled t �
 sums_same t a b rows h r =
     first_same (sum_at_overflows t a b) (λ k. sum_overflows (value_at rows) (poly_at t k)) t.level (generators t)
     (λ k l m.
-    ap (λ (n : ℕ). nat_le (2 ^ 127) n)
+    ap (λ (n : ℕ). overflows n)
     (sym (magnitude-agree (value_at rows) (point_of a b) (poly_at t k) (points_agree t a b rows k h r l (omega arith)))))
 
 named_at : (place : ℕ → WideAt) (found : Option ℕ) (at : WideAt) (rest : Result (List ℤ) WideAt)
@@ -129,7 +132,7 @@ not_less k level h = grind (arith, nat_tests)
 pub values_written : (t : Tabled) (a b : List ℤ) (rows : List Reading) (sums out : List ℤ) (level last : ℕ) → IsTabled t
     → Hold t a b rows
     → ((k : ℕ) → t.level ≤ k → k ≤ last_of t
-    → (entry sums k ≡ value_of (value_at rows) (poly_at t k)) × (unsigned_abs (entry sums k) < 2 ^ 127))
+    → (entry sums k ≡ value_of (value_at rows) (poly_at t k)) × IsNumber (entry sums k))
     → level ≡ t.level → last ≡ last_of t
     → out ≡ map (λ k. cond (ltb k level) (pos 0) (entry sums k)) (numbers 1 last) → out ≡ values t a b
 values_written t a b rows sums out level last h r s e f o =

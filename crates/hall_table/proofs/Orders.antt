@@ -1,14 +1,15 @@
 -- The written order as the loops follow it.
 --   low d numbers · p test · x number · n width
-use Rattle.std.proofs.Common.{◌≡◌, ℕ, zero, suc, ◌+◌, ◌^◌, ◌<◌, ◌≤◌, Bool, true, false, cond, refl, sym, ap, ◌∙◌, subst, arith, ◌⊎◌, inl, inr}
+use Rattle.std.proofs.Common.{◌≡◌, ℕ, zero, suc, ◌+◌, ◌<◌, ◌≤◌, Bool, true, false, cond, refl, sym, ap, ◌∙◌, subst, arith, ◌⊎◌, inl, inr}
 use Rattle.std.specs.Prelude.{unsigned_abs, Some, None, ◌||◌}
 use Rattle.std.proofs.lemmas.Bool.{cases_Bool, false≢true, le-leb, leb-true}
 use Rattle.std.proofs.lemmas.Bool.Decides.{nat_tests}
 use lib.IntN.{ℤ}
-use lib.Dec.{leb}
 use Rattle.nil_num.specs.Row.{written_product}
 use Rattle.binom_poly.specs.Readings.{RowOverflows}
-use Rattle.hall_table.specs.Order.{first_from, overflows_below, row_overflows}
+use Rattle.nil_num.specs.Bound.{Overflows, overflows}
+use Rattle.nil_num.specs.First.{first_from}
+use Rattle.hall_table.specs.Order.{overflows_below, row_overflows}
 
 -- ---- the first number with a property
 none_before : (p : ℕ → Bool) (low d k : ℕ) → k ≤ low → low < k + d → ((j : ℕ) → k ≤ j → j < low → p j ≡ false)
@@ -47,24 +48,24 @@ first_none p low (suc d) h =
     ∙ first_none p (suc low) d (λ j l m. h j (omega arith) (omega arith))
 
 -- ---- rows
-below_of : (x : ℤ) (n : ℕ) → overflows_below x n ≡ true → (k : ℕ) × (k < n) × (2 ^ 127 ≤ unsigned_abs (written_product x k))
+below_of : (x : ℤ) (n : ℕ) → overflows_below x n ≡ true → (k : ℕ) × (k < n) × Overflows (unsigned_abs (written_product x k))
 below_of x zero h = absurd (false≢true h)
 below_of x (suc n) h =
-    elim (cases_Bool (leb (2 ^ 127) (unsigned_abs (written_product x n)))) [
-      | inl b ↦ (n, omega arith, leb-true (2 ^ 127) (unsigned_abs (written_product x n)) b)
+    elim (cases_Bool (overflows (unsigned_abs (written_product x n)))) [
+      | inl b ↦ (n, omega arith, leb-true _ (unsigned_abs (written_product x n)) b)
       | inr b ↦
           let (k, l, p) = below_of x n (sym (ap (λ (c : Bool). c || overflows_below x n) b) ∙ h) in
           (k, omega arith, p)
     ]
 
-of_below : (x : ℤ) (n k : ℕ) → k < n → 2 ^ 127 ≤ unsigned_abs (written_product x k) → overflows_below x n ≡ true
+of_below : (x : ℤ) (n k : ℕ) → k < n → Overflows (unsigned_abs (written_product x k)) → overflows_below x n ≡ true
 of_below x zero k l h = absurd (omega arith)
 of_below x (suc n) k l h =
     elim (same_or_less k n (omega arith)) [
       | inl e ↦
           ap (λ (c : Bool). c || overflows_below x n)
-          (le-leb (2 ^ 127) (unsigned_abs (written_product x n)) (subst (λ (j : ℕ). 2 ^ 127 ≤ unsigned_abs (written_product x j)) e h))
-      | inr m ↦ or_true (leb (2 ^ 127) (unsigned_abs (written_product x n))) (overflows_below x n) (of_below x n k m h)
+          (le-leb _ (unsigned_abs (written_product x n)) (subst (λ (j : ℕ). Overflows (unsigned_abs (written_product x j))) e h))
+      | inr m ↦ or_true (overflows (unsigned_abs (written_product x n))) (overflows_below x n) (of_below x n k m h)
     ]
   where
     same_or_less : (i j : ℕ) → i ≤ j → (i ≡ j) ⊎ (i < j)

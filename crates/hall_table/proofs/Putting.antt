@@ -1,11 +1,12 @@
 -- Rows after a value is put, and values at equal points.
 --   v u variables · x number · t table · a b points · m monomial · p polynomial
-use Rattle.std.proofs.Common.{◌≡◌, ◌≢◌, ℕ, ◌+◌, ◌^◌, ◌<◌, ◌≤◌, List, [], ◌∷◌, refl, sym, ap, ◌∙◌, subst, arith, inl, inr, eqb, get_or-set_same, get_or-set_other}
+use Rattle.std.proofs.Common.{◌≡◌, ◌≢◌, ℕ, ◌+◌, ◌<◌, ◌≤◌, List, [], ◌∷◌, refl, sym, ap, ◌∙◌, subst, arith, inl, inr, eqb, get_or-set_same, get_or-set_other}
 use Rattle.std.specs.Prelude.{All, unsigned_abs}
 use Rattle.std.proofs.lemmas.Bool.{cases_Bool, eqb-true, false≢true, eq-eqb}
 use Rattle.std.proofs.lemmas.List.Elements.{All-head, All-tail}
 use lib.IntN.{ℤ, pos, ◌+ℤ◌, ◌*ℤ◌}
 use borrow.Author.Differences.{ints}
+use Rattle.nil_num.specs.Bound.{Fits, IsNumber}
 use Rattle.integer.specs.Binomial.{choose}
 use Rattle.binom_poly.specs.declared.part.Part.{Part}
 use Rattle.binom_poly.specs.declared.term.Term.{Term}
@@ -83,7 +84,6 @@ value-within a (t ∷ p) =
     let s = abs_sum (t.coefficient *ℤ monomial_value a t.monomial) (value_of a p) in
     omega (arith, value-within a p)
 
-pub entry_within : (a : ℕ → ℤ) (p : List Term) (v w : ℤ) → v ≡ w → w ≡ value_of a p → magnitude_of a p < 2 ^ 127
-    → unsigned_abs v < 2 ^ 127
+pub entry_within : (a : ℕ → ℤ) (p : List Term) (v w : ℤ) → v ≡ w → w ≡ value_of a p → Fits (magnitude_of a p) → IsNumber v
 entry_within a p v w e f h =
-    subst (λ z. unsigned_abs z < 2 ^ 127) (sym (e ∙ f)) (omega (arith, value-within a p))
+    subst IsNumber (sym (e ∙ f)) (omega (arith, value-within a p))

@@ -15,7 +15,8 @@ use Rattle.binom_poly.specs.Monomial.{monomial_cmp, monomial_cmp_total}
 use Rattle.binom_poly.specs.Polynomial.{monomial_value, value_of, IsPolynomial, IsPolynomialFrom}
 use Rattle.binom_poly.proofs.Unique.{before_irrefl, rest_is}
 use Rattle.binom_poly.proofs.Canonical.{value-var_terms}
-use Rattle.hall_table.specs.Shape.{y_of, alone, is_alone, coefficient_of, is_lower, AreLower, HasShape}
+use Rattle.binom_poly.specs.Variable.{y_of}
+use Rattle.hall_table.specs.Shape.{alone, is_alone, coefficient_of, is_lower, AreLower, HasShape}
 use Rattle.hall_table.proofs.Shapes.{alone_is, none_alone, not_alone}
 use Rattle.hall_table.proofs.Putting.{monomial-agree}
 

@@ -13,7 +13,8 @@ use Rattle.binom_poly.specs.declared.term.Term.{Term}
 use Rattle.binom_poly.specs.Monomial.{monomial_cmp, monomial_cmp_total}
 use Rattle.binom_poly.specs.Polynomial.{IsTerm, IsPolynomial, IsPolynomialFrom}
 use Rattle.binom_poly.proofs.Unique.{rest_is}
-use Rattle.hall_table.specs.Shape.{y_of, alone, is_alone, coefficient_of, is_lower, AreLower, HasShape}
+use Rattle.binom_poly.specs.Variable.{y_of}
+use Rattle.hall_table.specs.Shape.{alone, is_alone, coefficient_of, is_lower, AreLower, HasShape}
 use Rattle.hall_table.specs.Tail.{is_from, is_kept, from_level}
 use Rattle.hall_table.proofs.Shapes.{alone_is}
 

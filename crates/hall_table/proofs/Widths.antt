@@ -14,7 +14,8 @@ use Rattle.binom_poly.specs.Polynomial.{IsTerm, IsPolynomial}
 use Rattle.binom_poly.specs.Reading.{Reading}
 use Rattle.binom_poly.specs.Readings.{width_in, width_of, reading_at}
 use Rattle.binom_poly.proofs.Sorting.{polynomial_terms}
-use Rattle.hall_table.specs.Shape.{y_of, is_lower}
+use Rattle.binom_poly.specs.Variable.{y_of}
+use Rattle.hall_table.specs.Shape.{is_lower}
 use Rattle.hall_table.specs.Tabled.{Tabled, IsTabled, last_of}
 use Rattle.hall_table.specs.Width.{greatest_exponent, greatest_in, HasRows}
 

@@ -2,6 +2,7 @@
 --   Paired          what contracts see: the presentation and the table
 --   IsChecked c     the table's values are a multiplication table of the presentation at its level
 --   OfChecked P     P holds of the presentation, level and values of each checked table
+-- c a presentation with its table
 use Rattle.std.specs.Prelude.{◌≡◌, ℕ, length}
 use Rattle.nil_word.specs.Congruence.{Relations}
 use Rattle.hall_law.specs.Table.{Operation, IsTable}

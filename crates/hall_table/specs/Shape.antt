@@ -1,20 +1,26 @@
 -- The shape of a table's polynomials: f_k is x_k + y_k plus terms in lower variables.
---   y_of k                 the number of the variable y_k; that of x_k is k
---   alone v                the monomial that is the variable v
+--   IsX v  is_x v          v is before the variables y_k, as each x_k is; the test of it
+--   alone v  is_alone v m  the monomial that is the variable v; the test whether m is it
 --   coefficient_of v p     the coefficient of v alone in p, and 0 where p has no such term
 --   is_lower level k v     v is x_l or y_l with level <= l < k
 --   AreLower level k m     each variable of the monomial m is; so it is for a constant
+--   are_lower level k m    the test of it
 --   HasShape level k p     p is x_k + y_k plus terms in lower variables
 --   has_shape level k p    the test of it
--- k generator · v variable · m monomial · p polynomial
-use Rattle.std.specs.Prelude.{◌≡◌, ◌≢◌, ℕ, ◌+◌, ◌==◌, nat_le, nat_lt, Bool, false, ◌&&◌, ◌||◌, IsTrue, ℤ, pos, List, [], ◌∷◌, All, if◌then◌else◌}
+--   is_allowed level k t   what it tests of the term t
+-- k generator · v variable · m monomial · t term · p polynomial
+use Rattle.std.specs.Prelude.{◌≡◌, ◌≢◌, ℕ, ◌<◌, ◌==◌, nat_le, nat_lt, Bool, false, ◌&&◌, ◌||◌, IsTrue, ℤ, pos, List, [], ◌∷◌, All, if◌then◌else◌}
 use Rattle.std.specs.List.{list_all}
 use Rattle.std.specs.Ordering.{int_eq}
 use Rattle.binom_poly.specs.declared.part.Part.{Part}
 use Rattle.binom_poly.specs.declared.term.Term.{Term}
+use Rattle.binom_poly.specs.Variable.{y_of}
 
-abbrev pub y_of : ℕ → ℕ
-y_of k = 64 + k
+abbrev pub IsX : ℕ → Type 0
+IsX v = v < y_of 0
+
+abbrev pub is_x : ℕ → Bool
+is_x v = nat_lt v (y_of 0)
 
 abbrev pub alone : ℕ → List Part
 alone v = record { var = v; exp = 1 } ∷ []

@@ -6,10 +6,11 @@
 --   AreShaped level ps            each of the polynomials has the shape
 --   IsFirstUnshaped level ps k    f_k is the first that hasn't
 --   IsTabled t                    what each table meets
--- k generator · ps polynomials
+-- j k generators · t table · ps polynomials
 use Rattle.std.specs.Prelude.{ℕ, ◌+◌, ◌-◌, ◌<◌, ◌≤◌, List, [], length, slice_index_or}
 use Rattle.binom_poly.specs.declared.term.Term.{Term}
 use Rattle.binom_poly.specs.Polynomial.{IsPolynomial}
+use Rattle.hall_table.specs.declared.table.TheConstants.{GENERATOR_LIMIT}
 use Rattle.hall_table.specs.Shape.{HasShape}
 
 pub record Tabled : Type 0 where
@@ -38,6 +39,6 @@ pub record IsFirstUnshaped (level : ℕ) (ps : List (List Term)) (k : ℕ) : Typ
 pub record IsTabled (t : Tabled) : Type 0 where
   pub least : 1 ≤ t.level
   pub nonempty : 0 < length t.polys
-  pub most : t.level + length t.polys ≤ 49
+  pub most : t.level + length t.polys ≤ GENERATOR_LIMIT + 1
   pub forms : (i : ℕ) → i < length t.polys → IsPolynomial (slice_index_or t.polys i [])
   pub shapes : AreShaped t.level t.polys

@@ -18,7 +18,7 @@ mod wide_at;
 
 pub use checked::Checked;
 use std::alloc::AllocError;
-pub use table::Table;
+pub use table::{GENERATOR_LIMIT, Table};
 pub use table_of_fault::TableOfFault;
 pub use wide_at::WideAt;
 

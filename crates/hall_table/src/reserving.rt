@@ -4,21 +4,20 @@ ghost use Rattle.std.specs.Prelude.{◌≡◌, ◌≤◌, ℕ, ℤ, pos, max, If
 ghost use Rattle.binom_poly.specs.Readings.{value_at};
 
 use super::Memory;
-use super::shaping::Y;
 use super::table::Table;
 use super::tops::greatest_in;
-use binom_poly::{Rows, Top};
+use binom_poly::{EXPONENT_LIMIT, Rows, Top, y_of};
 use std::alloc::Global;
 
 impl Table {
     ghost use Rattle.hall_table.specs.Tabled.{IsTabled};
     ghost use Rattle.hall_table.specs.Width.{HasRows, greatest_in};
 
-    // The top of a variable's row.
+    /// The top of a variable's row.
     fn top(&self, variable: u32) -> Top
         ensures top { result
             ≡ record { var = variable; top = max (greatest_in variable self.now.polys) 1 } }
-        ensures small { result.top ≤ 1000 }
+        ensures small { result.top ≤ EXPONENT_LIMIT }
     {
         Top {
             var: variable,
@@ -32,14 +31,11 @@ impl Table {
         ensures rows { IfOk result (λ rows. HasRows self.now rows) }
         ensures zeros { IfOk result (λ rows. (v : ℕ) → value_at rows v ≡ pos 0) }
     {
-        let level = self.level();
-        let end = self.last() + 1;
         let mut tops = Vec::new(alloc);
-        for k in level..end {
+        for k in self.level()..self.last() + 1 {
             tops.push(self.top(k))?;
-            tops.push(self.top(Y + k))?;
+            tops.push(self.top(y_of(k)))?;
         }
-        let rows = Rows::reserve(alloc, &tops)?;
-        Ok(rows)
+        Rows::reserve(alloc, &tops)
     }
 }

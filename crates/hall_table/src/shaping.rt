@@ -5,19 +5,17 @@ ghost use Rattle.std.specs.List.{list_all};
 ghost use Rattle.binom_poly.specs.Polynomial.{IsPolynomial};
 ghost use Rattle.hall_table.specs.Shape.{HasShape, are_lower, coefficient_of, has_shape, is_alone, is_allowed, is_lower};
 
-use binom_poly::{Part, Poly, Term};
+use super::table::GENERATOR_LIMIT;
+use binom_poly::{Part, Poly, Term, y_of};
 
-/// The number of the variable `y_k` is this above that of `x_k`.
-pub const Y: u32 = 64;
-
-// Whether a monomial is one variable.
+/// Whether a monomial is one variable.
 fn is_alone(parts: &[Part], variable: u32) -> bool
     ensures { result ≡ is_alone variable parts.now }
 {
     parts.len() == 1 && parts[0].var == variable && parts[0].exp == 1
 }
 
-// The coefficient of a variable alone.
+/// The coefficient of a variable alone.
 fn coefficient(terms: &[Term], variable: u32) -> i128
     ensures { result ≡ coefficient_of variable terms.now }
 {
@@ -29,56 +27,56 @@ fn coefficient(terms: &[Term], variable: u32) -> i128
     0
 }
 
-// Whether a variable is one of a generator from the level on and below k.
+/// Whether a variable is one of a generator from the level on and below k.
 fn is_lower(level: u32, k: u32, variable: u32) -> bool
-    requires most { k ≤ 48 }
-    requires level { level ≤ 48 }
+    requires most { k ≤ GENERATOR_LIMIT }
+    requires level { level ≤ GENERATOR_LIMIT }
     ensures { result ≡ is_lower level k variable }
 {
-    (level <= variable && variable < k) || (Y + level <= variable && variable < Y + k)
+    (level <= variable && variable < k) || (y_of(level) <= variable && variable < y_of(k))
 }
 
-// Whether all variables of a monomial are.
+/// Whether all variables of a monomial are.
 fn are_lower(parts: &[Part], level: u32, k: u32) -> bool
-    requires most { k ≤ 48 }
-    requires level { level ≤ 48 }
+    requires most { k ≤ GENERATOR_LIMIT }
+    requires level { level ≤ GENERATOR_LIMIT }
     ensures { result ≡ are_lower level k parts.now }
 {
     parts.iter().all(|part| is_lower(level, k, part.var))
 }
 
-// Whether a term may stand in the polynomial of k.
+/// Whether a term may stand in the polynomial of k.
 fn is_allowed(term: &Term, level: u32, k: u32) -> bool
-    requires most { k ≤ 48 }
-    requires level { level ≤ 48 }
+    requires most { k ≤ GENERATOR_LIMIT }
+    requires level { level ≤ GENERATOR_LIMIT }
     ensures { result ≡ is_allowed level k term.now }
 {
     let parts = term.monomial.parts();
-    is_alone(parts, k) || is_alone(parts, Y + k) || are_lower(parts, level, k)
+    is_alone(parts, k) || is_alone(parts, y_of(k)) || are_lower(parts, level, k)
 }
 
-// Whether all terms may.
+/// Whether all terms may.
 fn are_allowed(terms: &[Term], level: u32, k: u32) -> bool
-    requires most { k ≤ 48 }
-    requires level { level ≤ 48 }
+    requires most { k ≤ GENERATOR_LIMIT }
+    requires level { level ≤ GENERATOR_LIMIT }
     ensures { result ≡ list_all (is_allowed level k) terms.now }
 {
     terms.iter().all(|term| is_allowed(term, level, k))
 }
 
-// The test of the shape.
+/// The test of the shape.
 fn is_shaped(terms: &[Term], level: u32, k: u32) -> bool
-    requires most { k ≤ 48 }
-    requires level { level ≤ 48 }
+    requires most { k ≤ GENERATOR_LIMIT }
+    requires level { level ≤ GENERATOR_LIMIT }
     ensures { result ≡ has_shape level k terms.now }
 {
-    coefficient(terms, k) == 1 && coefficient(terms, Y + k) == 1 && are_allowed(terms, level, k)
+    coefficient(terms, k) == 1 && coefficient(terms, y_of(k)) == 1 && are_allowed(terms, level, k)
 }
 
 /// Whether a polynomial has the shape of the polynomial of k.
 pub fn has_shape(poly: &Poly, level: u32, k: u32) -> bool
-    requires most { k ≤ 48 }
-    requires level { level ≤ 48 }
+    requires most { k ≤ GENERATOR_LIMIT }
+    requires level { level ≤ GENERATOR_LIMIT }
     ensures shape { MatchBool result (HasShape level k poly.now) (¬ HasShape level k poly.now) }
     ensures form { IsPolynomial poly.now }
 {

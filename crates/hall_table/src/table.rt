@@ -11,6 +11,9 @@ use binom_poly::{Poly, copy};
 use std::alloc::Global;
 use std::marker::Model;
 
+/// The greatest number of generators.
+pub const GENERATOR_LIMIT: usize = 48;
+
 /// A multiplication table's polynomials: for each generator from its level on one, which is
 /// `x_k + y_k` plus terms in variables of generators from the level on and below `k`.
 #[derive(Drop)]
@@ -37,7 +40,7 @@ impl Table {
     pub fn of(_alloc: Global, level: u32, polys: Vec<Poly>) -> Result<Table, TableOfFault>
         requires least { 1 ≤ level }
         requires nonempty { 0 < length polys.items }
-        requires most { level + length polys.items ≤ 49 }
+        requires most { level + length polys.items ≤ GENERATOR_LIMIT + 1 }
         ensures table { IfOk result (λ t. t ≡ record { level = level; polys = polys.items }) }
         ensures shaped { OnOk result (AreShaped level polys.items) }
         ensures unshaped { IfErr result (λ fault. (k : ℕ) → fault ≡ TableOfFault.Shape k

@@ -6,7 +6,7 @@ ghost use Rattle.hall_table.specs.Width.{greatest_exponent, greatest_in};
 
 use binom_poly::{Part, Poly, Term};
 
-// The exponent of a variable.
+/// The exponent of a variable.
 fn exponent(parts: &[Part], variable: u32) -> u32
     ensures { result ≡ exponent_of parts.now variable }
 {
@@ -18,7 +18,7 @@ fn exponent(parts: &[Part], variable: u32) -> u32
     0
 }
 
-// The greatest exponent of a variable in terms.
+/// The greatest exponent of a variable in terms.
 fn greatest_exponent(terms: &[Term], variable: u32) -> u32
     ensures { result ≡ greatest_exponent variable terms.now }
 {

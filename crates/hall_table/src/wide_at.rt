@@ -2,8 +2,8 @@
 
 use thiserror::Error;
 
-/// The place where a product overflows 128 bits: a row of a variable, or a sum. The number is that of
-/// the generator.
+/// The place where a product overflows 128 bits: a row of a variable, or a sum. The number is that
+/// of the generator.
 #[derive(Clone, Copy, PartialEq, Eq, Debug, Drop, Error)]
 pub enum WideAt {
     #[error("the row of x{0} overflows 128 bits")]

@@ -1,5 +1,4 @@
-use Rattle.std.proofs.Common.{◌≡◌, ℕ, List, ◌∙◌, sym, ap, subst}
-use lib.IntN.{ℤ}
+use Rattle.std.proofs.Common.{ℕ, ◌∙◌, sym, subst}
 use Rattle.nil_word.specs.Words.{IsVector}
 use Rattle.nil_pres.specs.Relations.{relations_of}
 use Rattle.hall_law.specs.Table.{IsTable}

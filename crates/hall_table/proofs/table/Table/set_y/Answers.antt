@@ -1,7 +1,8 @@
-use Rattle.std.proofs.Common.{refl}
+use Rattle.std.proofs.Common.{◌<◌, refl, sym, ap, ◌∙◌, subst}
 use Rattle.std.specs.Int.{w128}
 use Rattle.std.proofs.lemmas.Int.{to_z-of_z}
-use Rattle.hall_table.specs.Shape.{y_of}
+use Rattle.binom_poly.specs.Readings.{width_at}
+use Rattle.binom_poly.specs.Variable.{y_of}
 use Rattle.hall_table.proofs.Covering.{y_positive}
 use Rattle.hall_table.proofs.Orders.{put_fits, put_overflows}
 use Rattle.hall_table.proofs.Putting.{HasRows-with_value}
@@ -9,20 +10,30 @@ use Rattle.hall_table.proofs.table.Table.set_y.Goals as goal
 
 pub returns-in-Ok-clause-wide : goal.returns-in-Ok-clause-wide
 returns-in-Ok-clause-wide c =
-    put_fits c.args.x _ _ _ (to_z-of_z w128 c.args.x c.ranges.x) (c.requires.rows.width (y_of c.args.k)) c.in-Ok.ensures.fits
+    put_fits c.args.x _ _ _ (to_z-of_z w128 c.args.x c.ranges.x)
+    (ap (width_at c.args.rows.now) c.y_of.ensures ∙ c.requires.rows.width (y_of c.args.k))
+    c.in-Ok.ensures.fits
 
 pub returns-in-Ok-clause-rows : goal.returns-in-Ok-clause-rows
 returns-in-Ok-clause-rows c =
-    HasRows-with_value c.args.self.now c.args.rows.now c.put.new.self (y_of c.args.k) _
-    (y_positive c.args.self.now c.args.rows.now c.args.k c.requires.rows c.requires.least c.requires.most)
+    HasRows-with_value c.args.self.now c.args.rows.now c.put.new.self c.y_of.result _
+    (subst (λ v. 0 < width_at c.args.rows.now v) (sym c.y_of.ensures)
+    (y_positive c.args.self.now c.args.rows.now c.args.k c.requires.rows c.requires.least
+    c.requires.most))
     c.in-Ok.ensures.ok c.requires.rows
 
 pub returns-in-Err-clause-wide : goal.returns-in-Err-clause-wide
-returns-in-Err-clause-wide c =
-    (refl, put_overflows c.args.x _ _ _ (to_z-of_z w128 c.args.x c.ranges.x) (c.requires.rows.width (y_of c.args.k)) c.in-Err.ensures.wide)
+returns-in-Err-clause-wide c = (
+  refl,
+  put_overflows c.args.x _ _ _ (to_z-of_z w128 c.args.x c.ranges.x)
+      (ap (width_at c.args.rows.now) c.y_of.ensures ∙ c.requires.rows.width (y_of c.args.k))
+      c.in-Err.ensures.wide,
+)
 
 pub returns-in-Err-clause-rows : goal.returns-in-Err-clause-rows
 returns-in-Err-clause-rows c =
-    HasRows-with_value c.args.self.now c.args.rows.now c.put.new.self (y_of c.args.k) _
-    (y_positive c.args.self.now c.args.rows.now c.args.k c.requires.rows c.requires.least c.requires.most)
+    HasRows-with_value c.args.self.now c.args.rows.now c.put.new.self c.y_of.result _
+    (subst (λ v. 0 < width_at c.args.rows.now v) (sym c.y_of.ensures)
+    (y_positive c.args.self.now c.args.rows.now c.args.k c.requires.rows c.requires.least
+    c.requires.most))
     c.in-Err.ensures.err c.requires.rows
