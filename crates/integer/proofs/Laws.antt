@@ -4,6 +4,7 @@ use borrow.Author.Differences.{ints, up}
 use Rattle.std.specs.Int.RustNames.{int_div}
 use Rattle.std.proofs.Math.Nat.{mul-div_cancel, zero-div}
 use lib.IntN.{ℤ, pos, negsuc, ◌+ℤ◌, ◌-ℤ◌, ◌*ℤ◌, neg_ℤ, suc_ℤ, pred_ℤ, +ℤ_idl, suc_ℤ-+ℤ, pred_ℤ-+ℤ, suc_ℤ-*ℤ, pred_ℤ-*ℤ, zero-*ℤ, *ℤ_comm, neg_ℤ-neg_ℤ}
+use Rattle.integer.specs.Divides.{Divides}
 
 pub neg-mul_left : (a b : ℤ) → neg_ℤ a *ℤ b ≡ neg_ℤ (a *ℤ b)
 neg-mul_left (pos zero) b = zero-*ℤ b ∙ sym (ap neg_ℤ (zero-*ℤ b))
@@ -80,13 +81,6 @@ cancel k a b h e =
 
 pub cancel_suc : (n : ℕ) (a b : ℤ) → a *ℤ pos (suc n) ≡ b *ℤ pos (suc n) → a ≡ b
 cancel_suc n a b e = cancel (pos (suc n)) a b (λ z. let h : suc n ≡ 0 = ap up z in absurd (omega arith)) e
-
--- x is a multiple of d
-abbrev pub Divides : ℤ → ℤ → Type 0
-Divides d x = (q : ℤ) × (q *ℤ d ≡ x)
-
-pub divides_sum : (d x y : ℤ) → Divides d x → Divides d y → Divides d (x +ℤ y)
-divides_sum d x y p q = (p.0 +ℤ q.0, add-mul p.0 q.0 d ∙ ap (λ z. z +ℤ q.0 *ℤ d) p.1 ∙ ap (λ z. x +ℤ z) q.1)
 
 pub divides_difference : (d x y : ℤ) → Divides d x → Divides d y → Divides d (x -ℤ y)
 divides_difference d x y p q = (p.0 -ℤ q.0, sub-mul p.0 q.0 d ∙ ap (λ z. z -ℤ q.0 *ℤ d) p.1 ∙ ap (λ z. x -ℤ z) q.1)

@@ -1,5 +1,5 @@
 -- The first of some numbers with a property.
---   first_from low d p     the first of the d numbers from low on with p, and None where none has it
+--   first_from low d p     the first of the d numbers from low on with p, None where none has it
 --   IsFirstFrom low d P k  k is one of the d numbers from low on, the first with P
 use Rattle.std.specs.Prelude.{ℕ, zero, suc, ◌+◌, ◌<◌, ◌≤◌, Bool, Option, Some, None, if◌then◌else◌}
 

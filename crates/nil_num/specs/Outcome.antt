@@ -1,4 +1,4 @@
--- What a call answers that follows a written order: an outcome of that order, unless memory ran out.
+-- What a call answers that follows a written order: an outcome of it, unless memory ran out.
 --   Unless O value r         the outcome r is the value, and a refusal exactly where O holds
 --   Refuses O r              the outcome r is a refusal exactly where O holds
 --   Gives place result P     P holds of the value that is answered, or of the place that the fault

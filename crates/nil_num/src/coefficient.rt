@@ -7,7 +7,8 @@ ghost use Rattle.nil_num.specs.Outcome.{Unless};
 
 use crate::fit::{Past, add_fit, mul_fit};
 
-// The quotient of a product that may be wider than 128 bits: no step exceeds the answer by more than a small product.
+/// The quotient of a product that may be wider than 128 bits: no step exceeds the answer by more
+/// than a small product.
 fn scaled(number: u128, factor: u32, divisor: u32) -> Result<u128, Past>
     requires factor { factor ≤ 1000 }
     requires divisor { 0 < divisor }
@@ -20,7 +21,8 @@ fn scaled(number: u128, factor: u32, divisor: u32) -> Result<u128, Past>
     add_fit(whole, number % divisor * factor / divisor)
 }
 
-// `start` times `n + m` over `m`. The products on the way ascend, so one that overflows shows that the last does.
+/// `start` times `n + m` over `m`. The products on the way ascend, so one that overflows shows that
+/// the last does.
 fn times_binomial(start: u128, n: u32, m: u32) -> Result<u128, Past>
     requires within { Fits start }
     requires small { n + m ≤ 1000 }

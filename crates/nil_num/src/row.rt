@@ -14,7 +14,7 @@ pub struct PastAt {
     pub place: usize,
 }
 
-// `x` over `k + 1`, from `x` over `k`. The product of that and `x - k` is a multiple of `k + 1`.
+/// `x` over `k + 1`, from `x` over `k`. The product of that and `x - k` is a multiple of `k + 1`.
 fn next_binomial(x: i128, entry: i128, k: u32) -> Option<i128>
     requires entry { entry ≡ choose x k }
     requires small { k < 1000 }
@@ -37,8 +37,9 @@ fn next_binomial(x: i128, entry: i128, k: u32) -> Option<i128>
 
 /// Writes `x` over 0, `x` over 1 and so on.
 ///
-/// A place after the first is made by a product and a division. At the first place whose product overflows
-/// `MAX` the call refuses, though the quotient might fit; that place and the later ones are as before.
+/// A place after the first is made by a product and a division. At the first place whose product
+/// overflows the call refuses, though the quotient might fit; that place and the later ones are as
+/// before.
 pub fn binomial_row(x: i128, row: &mut [i128]) -> Result<(), PastAt>
     requires nonempty { 0 < length row.old }
     requires short { length row.old ≤ 1001 }

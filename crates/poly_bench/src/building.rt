@@ -10,13 +10,9 @@ fn one_and(alloc: Global, first: u32, count: u32) -> Result<Poly, PolyFault>
     requires positive { 1 ≤ first }
     requires variables { first + count ≤ 49 }
 {
-    let Ok(mut sum) = constant(alloc, 1) else {
-        return Err(PolyFault::Memory);
-    };
+    let mut sum = constant(alloc, 1)?;
     for step in 0..count {
-        let Ok(variable) = var(alloc, first + step) else {
-            return Err(PolyFault::Memory);
-        };
+        let variable = var(alloc, first + step)?;
         sum = add(alloc, &sum, &variable)?;
     }
     Ok(sum)
@@ -28,9 +24,7 @@ pub(crate) fn power(alloc: Global, first: u32, count: u32, exponent: u32) -> Res
     requires variables { first + count ≤ 49 }
 {
     let sum = one_and(alloc, first, count)?;
-    let Ok(mut power) = constant(alloc, 1) else {
-        return Err(PolyFault::Memory);
-    };
+    let mut power = constant(alloc, 1)?;
     for _ in 0..exponent {
         power = mul(alloc, &power, &sum)?;
     }

@@ -1,7 +1,7 @@
 -- Where a polynomial has the double of another's values, 2 divides its coefficients
 use Rattle.std.proofs.Common.{◌≡◌, ℕ, List, [], ◌∷◌, sym, ◌∙◌}
 use lib.IntN.{ℤ, pos, ◌*ℤ◌, *ℤ_comm}
-use Rattle.integer.proofs.Laws.{Divides}
+use Rattle.integer.specs.Divides.{Divides}
 use Rattle.binom_poly.specs.declared.term.Term.{Term}
 use Rattle.binom_poly.specs.Polynomial.{value_of, IsPolynomial}
 use Rattle.binom_poly.specs.Collected.{AllDivisible}
