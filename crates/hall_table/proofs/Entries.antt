@@ -6,9 +6,11 @@ use Rattle.std.proofs.lemmas.Bool.{cases_lt, lt-ltb, le-ltb}
 use Rattle.std.proofs.lemmas.Bool.Decides.{nat_tests}
 use Rattle.std.proofs.lemmas.List.Elements.{All-weaker}
 use lib.IntN.{ℤ, pos, ◌+ℤ◌}
+use lib.Dec.{ltb}
 use Rattle.nil_word.specs.Words.{IsVector}
 use Rattle.nil_word.specs.Exponents.{entry}
 use Rattle.hall_law.specs.Shape.{cut, IsShaped}
+use Rattle.hall_law.proofs.Entries.{length-map_numbers}
 use Rattle.hall_law.proofs.Cutting.{entry-cut_below, entry-cut_above}
 use Rattle.hall_law.proofs.Grading.{entry-from_entries}
 use Rattle.hall_law.proofs.Vectors.{IsAt, at_of}
@@ -31,6 +33,11 @@ entry-values t x y k h low high =
     let least : 1 ≤ t.level = h.least in
     entry-from_entries (last_of t) t.level (λ j u v. value_of (point_of u v) (poly_at t j)) x y k
     (omega arith) low high
+
+pub length-values : (t : Tabled) (x y : List ℤ) → length (values t x y) ≡ last_of t
+length-values t x y =
+    length-map_numbers (last_of t)
+    (λ k. cond (ltb k t.level) (pos 0) (value_of (point_of x y) (poly_at t k)))
 
 -- ---- points
 pub point_of-x : (x y : List ℤ) (v : ℕ) → v < 64 → point_of x y v ≡ entry x v

@@ -143,6 +143,7 @@ impl Table {
         ensures product { Writes result out.new (multiplied self.now a.now b.now) }
         ensures values { OnOk result (out.new ≡ values self.now a.now b.now) }
         ensures err { OnErr result (out.new ≡ out.old) }
+        ensures length { length out.new ≡ last_of self.now }
         ensures rows { HasRows self.now rows.new }
     {
         let level = self.level();

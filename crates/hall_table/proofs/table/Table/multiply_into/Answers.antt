@@ -1,4 +1,6 @@
+use Rattle.std.proofs.Common.{length, ap, ◌∙◌}
 use Rattle.std.proofs.lemmas.Result.{err_from_is_err_and}
+use Rattle.hall_table.proofs.Entries.{length-values}
 use Rattle.hall_table.proofs.Multiplied.{rows_hold, sum_named, product_written, values_written}
 use Rattle.hall_table.proofs.table.Table.multiply_into.Goals as goal
 
@@ -33,3 +35,7 @@ returns-clause-product c =
     c.in_ok-put_y.ensures.kept)
     c.in_ok-put_x.ensures.first c.in_ok-put_y.ensures.first c.in_ok-put_sums.ensures.first
     (returns-clause-values c)
+
+pub returns-clause-length : goal.returns-clause-length
+returns-clause-length c =
+    ap length (returns-clause-values c) ∙ length-values c.args.self.now c.args.a.now c.args.b.now
