@@ -27,11 +27,11 @@ right_side-finished d j i h low order high =
     ap (λ (row : List (List Syllable)). get_or row (i - 1) []) (get_or-map (map (λ (right : Option (List Syllable)). unwrap_or right [])) d.rights (j - 1) [] [] in_rows)
     ∙ get_or-map (λ (right : Option (List Syllable)). unwrap_or right []) (get_or d.rights (j - 1) []) (i - 1) None [] in_row
 
-or_else-None : (o : Option (List Syllable)) → or_else o None ≡ o
+pub or_else-None : (o : Option (List Syllable)) → or_else o None ≡ o
 or_else-None None = refl
 or_else-None (Some x) = refl
 
-abbrev draft : List (List ℕ) → List Line → Draft
+abbrev pub draft : List (List ℕ) → List Line → Draft
 draft names ls = draft_of (named start names) (onto names [] ls)
 
 rights_found : (names : List (List ℕ)) (ls : List Line) (rs : List Relation) → IsFound names [] ls rs → (j i : ℕ) → 1 ≤ i → i < j → j ≤ length names → right_side (finished (draft names ls)) j i ≡ right_given rs j i

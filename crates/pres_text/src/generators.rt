@@ -90,9 +90,7 @@ fn add_words(builder: &mut Builder, line: u64, names: &[u8]) -> Result<(), PresF
 {
     let mut rest = names;
     'names: while let Some((word, more)) = next_word(rest) {
-        if let Err(fault) = add_word(builder, line, word) {
-            return Err(fault);
-        }
+        add_word(builder, line, word)?;
         rest = more;
     }
     Ok(())

@@ -1,11 +1,9 @@
 //! Lines of a file that say something.
 
-ghost use Rattle.std.specs.Prelude.{◌≡◌, ◌==◌, ◌+◌, ◌-◌, ◌^◌, ◌<◌, ◌≤◌, [], ◌∷◌, length, MatchOption, IfNone, IfSome};
-ghost use Rattle.std.specs.List.{position_or_len};
-ghost use Rattle.std.specs.Str.Lines.{strip_carriage_return};
+ghost use Rattle.std.specs.Prelude.{◌≡◌, ◌+◌, ◌^◌, ◌<◌, ◌≤◌, [], ◌∷◌, length, MatchOption, IfNone, IfSome};
 ghost use Rattle.pres_text.specs.Lines.{lines, content_from};
 
-use line_tokens::silent;
+use line_tokens::{silent, split_line, without_return};
 
 /// A line with its number, from 1, without a carriage return at its end.
 #[derive(Drop)]
@@ -22,36 +20,16 @@ pub(super) struct Lines<'a> {
     ghost fits: { number + length rest.now < 2 ^ 64 },
 }
 
-/// How many bytes stand before the first line feed.
-fn line_len(bytes: &[u8]) -> usize
-    ensures len { result ≡ position_or_len (λ b. b == 10) bytes.now }
-    ensures within { result ≤ length bytes.now }
-{
-    bytes.iter().take_while(|byte| **byte != b'\n').count()
-}
-
 /// The line at the front of bytes, and those behind it.
 fn first_line(bytes: &[u8]) -> (&[u8], &[u8])
     requires { 0 < length bytes.now }
     ensures line { lines bytes.now ≡ result.0.now ∷ lines result.1.now }
     ensures less { length result.1.now < length bytes.now }
 {
-    let end = line_len(bytes);
-    if end == bytes.len() {
-        return (bytes, &[]);
-    }
-    let (line, rest) = bytes.split_at(end);
-    let (_, rest) = rest.split_at(1);
-    (line, rest)
-}
-
-/// The line without a carriage return at its end.
-fn stripped(line: &[u8]) -> &[u8]
-    ensures { result.now ≡ strip_carriage_return line.now }
-{
-    match line {
-        [front @ .., b'\r'] => front,
-        _ => line,
+    let (line, rest) = split_line(bytes);
+    match rest {
+        Some(rest) => (line, rest),
+        None => (line, &[]),
     }
 }
 
@@ -78,7 +56,7 @@ impl<'a> Lines<'a> {
     {
         while self.rest.len() > 0 {
             let (line, rest) = first_line(self.rest);
-            let text = stripped(line);
+            let text = without_return(line);
             let number = self.number;
             self.rest = rest;
             self.number = number + 1;

@@ -32,15 +32,9 @@ fn read_second(alloc: Global, left: &mut Lines) -> Result<Builder, PresFault>
             kind: FileKind::Header,
         });
     };
-    let Ok(mut builder) = Builder::new(alloc) else {
-        return Err(PresFault::Memory);
-    };
-    if let Err(fault) = add_generators(&mut builder, &line) {
-        return Err(fault);
-    }
-    if let Err(fault) = add_lines(alloc, &mut builder, left) {
-        return Err(fault);
-    }
+    let mut builder = Builder::new(alloc)?;
+    add_generators(&mut builder, &line)?;
+    add_lines(alloc, &mut builder, left)?;
     Ok(builder)
 }
 
@@ -80,16 +74,9 @@ pub fn read(alloc: Global, bytes: &[u8]) -> Result<Presentation, PresFault>
     // A file with a fault is refused with it, unless memory runs out.
     ensures only_fault { IfSome (first_fault bytes.now) (λ f. Gives result (Err f)) }
 {
-    let builder = match read_lines(alloc, bytes) {
-        Ok(builder) => builder,
-        Err(fault) => return Err(fault),
-    };
+    let builder = read_lines(alloc, bytes)?;
     match builder.finish() {
-        Some(presentation) => {
-            // Each presentation's count tells that it is lawful.
-            let _count = presentation.count();
-            Ok(presentation)
-        }
+        Some(presentation) => Ok(presentation),
         None => unreachable!(),
     }
 }

@@ -98,16 +98,13 @@ fn add_line(alloc: Global, builder: &mut Builder, line: &Line) -> Result<(), Pre
             kind: FileKind::NotText,
         });
     }
-    let Ok(tokens) = cut(alloc, &RelationWords { builder: &*builder }, line.text) else {
-        return Err(PresFault::Memory);
-    };
-    match spelled(alloc, tokens.as_slice()) {
-        Err(_) => Err(PresFault::Memory),
-        Ok(None) => Err(PresFault::File {
+    let tokens = cut(alloc, &RelationWords { builder: &*builder }, line.text)?;
+    match spelled(alloc, tokens.as_slice())? {
+        None => Err(PresFault::File {
             line: line.number,
             kind: FileKind::Relation,
         }),
-        Ok(Some(relation)) => add_relation(builder, line.number, &relation),
+        Some(relation) => add_relation(builder, line.number, &relation),
     }
 }
 
@@ -126,9 +123,7 @@ pub(super) fn add_lines(
         (content_from left.old.number (lines left.old.rest.now))) }
 {
     'lines: while let Some(line) = left.next_content() {
-        if let Err(fault) = add_line(alloc, builder, &line) {
-            return Err(fault);
-        }
+        add_line(alloc, builder, &line)?;
     }
     Ok(())
 }
