@@ -1,22 +1,22 @@
 -- A file without a fault says a lawful presentation.
-use Rattle.std.proofs.Common.{◌≡◌, ℕ, ◌+◌, ◌<◌, ◌≤◌, ◌==◌, ◌&&◌, not, Bool, true, false, codes, List, [], ◌∷◌, ◌++◌, length, map, drop, Option, Some, None, IfSome, option_map, if◌then◌else◌, refl, sym, ◌∙◌, ap, subst, arith, append_assoc, append-nil}
+use Rattle.std.proofs.Common.{◌≡◌, ℕ, ◌+◌, ◌==◌, ◌&&◌, not, Bool, true, false, codes, List, [], ◌∷◌, ◌++◌, length, map, drop, Option, Some, None, IfSome, option_map, if◌then◌else◌, refl, sym, ◌∙◌, subst, arith, append_assoc, append-nil}
 use Rattle.std.specs.Str.{bytes_eq}
 use Rattle.std.proofs.lemmas.Bool.Decides.{nat_tests}
 use Rattle.nil_pres.specs.declared.syllable.Syllable.{Syllable}
 use Rattle.nil_pres.specs.declared.name_fault.NameFault.{NameFault}
 use Rattle.nil_pres.specs.Rights.{IsRight}
-use Rattle.nil_pres.specs.Presented.{Draft, Presented, AreNames, IsDraft, IsPresented, added, name_fault_among, finished}
+use Rattle.nil_pres.specs.Presented.{AreNames, IsDraft, added, name_fault_among, finished}
 use Rattle.nil_pres.proofs.Naming.{AreNames-append}
 use Rattle.nil_pres.proofs.Reading.{IsPresented-finished}
 use Rattle.pres_text.specs.declared.file_kind.FileKind.{FileKind}
 use Rattle.pres_text.specs.declared.file_kind.FileKind.TheVariants as kind
 use Rattle.pres_text.specs.declared.pres_fault.PresFault.TheVariants.{File}
 use Rattle.pres_text.specs.Lines.{Line, lines, content, words, is_text}
-use Rattle.pres_text.specs.FirstFault.{broken, header_fault, name_fault, names_fault, first_of, generator_words_fault, generators_fault, names_of, second_fault, lines_fault, first_fault}
+use Rattle.pres_text.specs.FirstFault.{header_fault, name_fault, names_fault, first_of, generator_words_fault, generators_fault, names_of, second_fault, lines_fault, first_fault}
 use Rattle.pres_text.specs.File.{Relation, AreRelations, none, more, IsFile}
-use Rattle.pres_text.specs.Reading.{name_fault_at, named_by, related, all_drafted, start, named}
+use Rattle.pres_text.specs.Reading.{name_fault_at, all_drafted, start, named}
 use Rattle.pres_text.proofs.Faults.{name_fault-builder}
-use Rattle.pres_text.proofs.Drafts.{IsShaped-draft_of, draft_of}
+use Rattle.pres_text.proofs.Drafts.{IsShaped-draft_of}
 use Rattle.pres_text.proofs.Whole.{broken-None, shaped, names_are, given_are, onto, related_agrees}
 use Rattle.pres_text.proofs.Saying.{IsFound, relation_at, at_line-None, relations_fault-None}
 use Rattle.pres_text.proofs.Presented.{draft, or_else-None, is_file, some_names}

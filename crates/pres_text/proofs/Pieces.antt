@@ -1,6 +1,6 @@
 -- Lines and words from their front.
 use Rattle.std.proofs.Common.{◌≡◌, ℕ, suc, ◌+◌, ◌<◌, ◌≤◌, ◌==◌, Bool, true, false, not, cond, nat_le, List, [], ◌∷◌, Option, Some, None, IfNone, MatchOption, length, filter, take, drop, get_or, refl, sym, subst, inl, inr, ◌∙◌, ap, arith, add-one, drop-cons}
-use Rattle.std.specs.List.{prefix_len, position_or_len, slice_split, before_first, after_first, onto_first}
+use Rattle.std.specs.List.{prefix_len, position_or_len, slice_split, onto_first}
 use Rattle.std.proofs.lemmas.Bool.Decides.{nat_tests}
 use Rattle.std.proofs.lemmas.List.{drop-drop, drop_all, take_all, length-take-le}
 use Rattle.std.proofs.lemmas.Bool.{cases_lt}

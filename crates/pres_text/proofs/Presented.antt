@@ -12,7 +12,8 @@ use Rattle.nil_pres.proofs.Naming.{absent_before}
 use Rattle.pres_text.specs.declared.file_kind.FileKind.{FileKind}
 use Rattle.pres_text.specs.declared.file_kind.FileKind.TheVariants as kind
 use Rattle.pres_text.specs.Lines.{Line, lines, content, words, is_text}
-use Rattle.pres_text.specs.FirstFault.{broken, is_header, header_fault, name_fault, names_fault, first_of, generator_words_fault, generators_fault, names_of, at_line, relations_fault, second_fault, lines_fault, first_fault}
+use Rattle.pres_text.specs.RelationFaults.{broken}
+use Rattle.pres_text.specs.FirstFault.{is_header, header_fault, name_fault, names_fault, first_of, generator_words_fault, generators_fault, names_of, at_line, relations_fault, second_fault, lines_fault, first_fault}
 use Rattle.pres_text.specs.File.{Relation, right_given, AreRelations, IsFile}
 use Rattle.pres_text.specs.Reading.{start, named, named_by, related, all_drafted}
 use Rattle.pres_text.proofs.Drafts.{IsShaped, IsShaped-draft_of, draft_of}

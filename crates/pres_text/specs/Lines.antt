@@ -1,6 +1,6 @@
 -- The lines of a presentation file that say something, and their words.
 --   without_empty_end ls   the lines but the last one, where that is empty
---   lines file             the pieces between line feeds; the last one is a line where it isn't empty
+--   lines file             the pieces between line feeds; an empty last one is no line
 --   Line                   a line with its number, from 1, without a carriage return at its end
 --   content_from n ls      the lines that say something among those from the number n on
 --   content file           the lines that say something: the others are blank or begin with a #

@@ -2,6 +2,7 @@
 
 ghost use Rattle.std.specs.Prelude.{◌≡◌, ◌+◌, ◌^◌, ◌<◌, ◌≤◌, [], ◌∷◌, length, MatchOption, IfNone, IfSome};
 ghost use Rattle.pres_text.specs.Lines.{lines, content_from};
+ghost use Rattle.pres_text.specs.Seen.{line_seen};
 
 use line_tokens::{silent, split_line, without_return};
 
@@ -47,8 +48,10 @@ impl<'a> Lines<'a> {
 
     /// The next line that says something.
     pub fn next_content(&mut self) -> Option<Line<'a>>
-        ensures line { MatchOption result (content_from self.old.number (lines self.old.rest.now) ≡ [])
-            (λ l. content_from self.old.number (lines self.old.rest.now) ≡ (record { number = l.number; text = l.text.now }) ∷ content_from self.new.number (lines self.new.rest.now)) }
+        ensures line { MatchOption result
+            (content_from self.old.number (lines self.old.rest.now) ≡ [])
+            (λ l. content_from self.old.number (lines self.old.rest.now) ≡ line_seen l
+            ∷ content_from self.new.number (lines self.new.rest.now)) }
         ensures end { self.new.number + length (lines self.new.rest.now) ≡ self.old.number + length
             (lines self.old.rest.now) }
         ensures all { IfNone result (self.new.rest.now ≡ []) }

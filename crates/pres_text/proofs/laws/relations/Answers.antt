@@ -1,4 +1,4 @@
-use Rattle.std.proofs.Common.{◌≡◌, ◌↔◌, List, Option, Some, None, refl, sym, ◌∙◌}
+use Rattle.std.proofs.Common.{◌≡◌, List, Option, Some, None, refl, sym, ◌∙◌}
 use Rattle.line_tokens.specs.declared.kind.Kind.{Kind}
 use Rattle.pres_text.specs.Relation.{Spelled, IsSpelled, spelled_by}
 use Rattle.pres_text.proofs.Grammar.{spelled_by-sound, spelled_by-complete}

@@ -1,4 +1,3 @@
-use Rattle.std.proofs.Common.{◌≡◌}
 use Rattle.pres_text.proofs.Pieces.{lines-some, lines-none}
 use Rattle.pres_text.proofs.lines.first_line.Goals as goal
 

@@ -5,8 +5,8 @@ use Rattle.pres_text.specs.declared.pres_fault.PresFault.{PresFault}
 use Rattle.pres_text.specs.Lines.{lines, content}
 use Rattle.pres_text.specs.FirstFault.{first_fault}
 use Rattle.pres_text.specs.File.{IsFile}
-use Rattle.pres_text.specs.Reading.{Gives, all_drafted_fault, all_drafted}
-use Rattle.pres_text.proofs.Faults.{failed_in, gives_in, memory_gives, only_memory, memory_or_first, none_failed}
+use Rattle.pres_text.specs.Reading.{all_drafted_fault, all_drafted}
+use Rattle.pres_text.proofs.Faults.{GivesOnly, failed_in, gives_in, memory_gives, only_memory, memory_or_first, none_failed}
 use Rattle.pres_text.proofs.Whole.{all_agrees}
 use Rattle.pres_text.proofs.Lawful.{file_of}
 use Rattle.pres_text.proofs.Presented.{some_names, reads}
@@ -36,14 +36,14 @@ returns-in_err-builder-clause-only_fault c =
     let p = err_from_is_err_and c.from_residual.result c.from_residual.ensures.1 in
     let f = c.in_err-builder.field-0.0 in
     rw (p.1, p.2)
-    (subst (λ (o : Option PresFault). IfSome o (λ g. Gives (failed_in Presented f) (failed_in Presented g)))
+    (subst (λ (o : Option PresFault). IfSome o (λ g. GivesOnly (failed_in Presented f) (failed_in Presented g)))
     (same c.args.bytes.now)
     (gives_in Draft Presented
     (all_drafted_fault (length (lines c.args.bytes.now) + 1) (content c.args.bytes.now)) f
     c.in_err-builder.ensures.fault))
 
 -- what was read has no fault
-fine : (file : List ℕ) (b : Draft) → IfSome (all_drafted_fault (length (lines file) + 1) (content file)) (λ f. Gives (Ok b) (Err f)) → first_fault file ≡ None
+fine : (file : List ℕ) (b : Draft) → IfSome (all_drafted_fault (length (lines file) + 1) (content file)) (λ f. GivesOnly (Ok b) (Err f)) → first_fault file ≡ None
 fine file b h = sym (same file) ∙ none_failed _ b h
 
 pub unreachable-requires : goal.unreachable-requires
@@ -66,4 +66,4 @@ returns-clause-only c = λ p says.
 
 pub returns-clause-only_fault : goal.returns-clause-only_fault
 returns-clause-only_fault c =
-    subst (λ (o : Option PresFault). IfSome o (λ g. Gives (Ok c.in-Some.presentation) (failed_in Presented g))) (sym (fine c.args.bytes.now c.in_ok-builder.builder c.in_ok-builder.ensures.fault)) tt
+    subst (λ (o : Option PresFault). IfSome o (λ g. GivesOnly (Ok c.in-Some.presentation) (failed_in Presented g))) (sym (fine c.args.bytes.now c.in_ok-builder.builder c.in_ok-builder.ensures.fault)) tt
