@@ -150,9 +150,9 @@ fn class_three(alloc: Global) -> Result<Table, Fail>
 
 /// The vector of level 2 with the entries of `a2`, `a3` and `a4`, and 0 at `a5` and `a6`.
 fn short(alloc: Global, second: i128, third: i128, fourth: i128) -> Result<Vector, Fail>
-    requires second { negsuc balance ≤ℤ second }
-    requires third { negsuc balance ≤ℤ third }
-    requires fourth { negsuc balance ≤ℤ fourth }
+    requires second { IsNumber second }
+    requires third { IsNumber third }
+    requires fourth { IsNumber fourth }
     ensures { IfOk result (λ v. length v ≡ 6) }
 {
     let mut vector = Vector::zero(alloc, 6)?;

@@ -9,6 +9,7 @@ use Rattle.std.specs.Char.{is_ascii_alphabetic}
 use Rattle.line_tokens.specs.declared.kind.Kind.{Kind}
 use Rattle.line_tokens.specs.declared.kind.Kind.TheVariants as k
 use Rattle.line_tokens.specs.declared.token.Token.{Token}
+use Rattle.nil_num.specs.Bound.{Fits, overflows}
 use Rattle.line_tokens.specs.Tokens.{is_blank, is_digit, number_from, fitting, integer, single, token_at, tokens_from, kinds, is_word_byte}
 use Rattle.line_tokens.proofs.Cuts.{tokens_from-drop, token_of}
 use Rattle.line_tokens.proofs.Decimals.{decimal-digits}
@@ -111,17 +112,18 @@ pub kinds-single : (word : List ℕ → Kind) (b : ℕ) (bs : List ℕ) → is_b
     → kinds word (b ∷ bs) ≡ single b ∷ kinds word bs
 kinds-single word b bs s l d m = kinds-token word b bs s ∙ ap (λ t. t.0 ∷ kinds word (drop t.1 bs)) (single_token word b bs l d m)
 
-fitting-small : (negative : Bool) (n : ℕ) → n < 2 ^ 127 → fitting negative n ≡ Some (cond negative (neg_ℤ (pos n)) (pos n))
-fitting-small negative n h = let e : nat_le n (2 ^ 127 - 1) ≡ true = grind (arith, nat_tests) in ap (λ q. cond q (Some (cond negative (neg_ℤ (pos n)) (pos n))) None) e
+fitting-small : (negative : Bool) (n : ℕ) → Fits n → fitting negative n ≡ Some (cond negative (neg_ℤ (pos n)) (pos n))
+fitting-small negative n h = let e : overflows n ≡ false = grind (arith, nat_tests) in
+    ap (λ q. cond q None (Some (cond negative (neg_ℤ (pos n)) (pos n)))) e
 
 int_eq-one : (n : ℕ) → int_eq (pos n) (pos 1) ≡ (n == 1)
 int_eq-one n = same_from_decides (int_eq (pos n) (pos 1)) (n == 1) (Decides-int_eq (pos n) (pos 1)) (Decides-like (n == 1) (λ e. ap pos e) (λ e. cc) (Decides-eqb n 1))
 
-is_wide : (n : ℕ) → n < 2 ^ 127 → n < 10 ^ 64
+is_wide : (n : ℕ) → Fits n → n < 10 ^ 64
 is_wide n h = omega arith
 
 -- a written number reads back
-pub kinds-signed : (word : List ℕ → Kind) (e : ℤ) (rest : List ℕ) → unsigned_abs e < 2 ^ 127 → prefix_len is_digit rest ≡ 0
+pub kinds-signed : (word : List ℕ → Kind) (e : ℤ) (rest : List ℕ) → Fits (unsigned_abs e) → prefix_len is_digit rest ≡ 0
     → kinds word (signed_decimal e ++ rest) ≡ k.Integer (int_eq e (pos 1)) (Some e) ∷ kinds word rest
 kinds-signed word (pos n) rest h s =
     let own = decimal-digits n (is_wide n h) in

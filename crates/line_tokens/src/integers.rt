@@ -1,6 +1,7 @@
 //! Integers.
 
-ghost use Rattle.std.specs.Prelude.{◌≡◌, ◌-◌, ◌^◌, nat_le, cond, Some, None};
+ghost use Rattle.std.specs.Prelude.{◌≡◌, Some, None, if◌then◌else◌};
+ghost use Rattle.nil_num.specs.Bound.{overflows};
 ghost use Rattle.line_tokens.specs.Tokens.{number_from, fitting, integer};
 
 use super::kind::Kind;
@@ -10,8 +11,8 @@ const MAX: u128 = 0x7fff_ffff_ffff_ffff_ffff_ffff_ffff_ffff;
 
 /// The number of digits, where it is at most 2^127 - 1.
 fn magnitude(digits: &[u8]) -> Option<u128>
-    ensures { result ≡ cond (nat_le (number_from 0 digits.now) (2 ^ 127 - 1))
-        (Some (number_from 0 digits.now)) None }
+    ensures { result ≡ (if overflows (number_from 0 digits.now) then None
+        else Some (number_from 0 digits.now)) }
 {
     let mut n = 0u128;
     for byte in digits {
@@ -42,5 +43,6 @@ pub(super) fn integer_kind(negative: bool, digits: &[u8]) -> Kind
     ensures { result ≡ integer negative digits.now }
 {
     let is_one = !negative && digits == b"1".as_slice();
-    Kind::Integer(is_one, value_of(negative, digits))
+    let value = value_of(negative, digits);
+    Kind::Integer { is_one, value }
 }

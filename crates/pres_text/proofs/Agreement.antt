@@ -13,7 +13,7 @@ use Rattle.pres_text.specs.declared.pres_fault.PresFault.{PresFault}
 use Rattle.pres_text.specs.declared.pres_fault.PresFault.TheVariants.{File}
 use Rattle.pres_text.specs.Relation.{Power, Spelled}
 use Rattle.pres_text.specs.Spelling.{clipped, syllables_of, spelled_clipped}
-use Rattle.pres_text.specs.FirstFault.{broken, is_exponent, is_zero, right_fault, has_unknown, is_given, relation_fault, spelled_fault}
+use Rattle.pres_text.specs.RelationFaults.{broken, is_exponent, is_zero, right_fault, has_unknown, is_given, relation_fault, spelled_fault}
 use Rattle.pres_text.specs.Reading.{relation_fault_at, has_unknown_number, clipped_fault, found_fault}
 
 abbrev pub at : ℕ → Option FileKind → Option PresFault

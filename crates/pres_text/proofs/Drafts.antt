@@ -8,7 +8,7 @@ use Rattle.nil_pres.specs.declared.syllable.Syllable.{Syllable}
 use Rattle.nil_pres.specs.Presented.{Draft, added, with_name, with_relation}
 use Rattle.pres_text.specs.Relation.{Spelled}
 use Rattle.pres_text.specs.Spelling.{syllables_of}
-use Rattle.pres_text.specs.FirstFault.{is_given}
+use Rattle.pres_text.specs.RelationFaults.{is_given}
 use Rattle.pres_text.specs.Reading.{named}
 
 -- rows with an entry for each lower generator

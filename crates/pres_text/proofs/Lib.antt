@@ -8,6 +8,7 @@ pub mod Drafts
 pub mod Whole
 pub mod Saying
 pub mod Presented
+pub mod Lawful
 pub mod Written
 pub mod Named
 pub mod Tokens

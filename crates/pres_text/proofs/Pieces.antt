@@ -1,12 +1,13 @@
 -- Lines and words from their front.
-use Rattle.std.proofs.Common.{◌≡◌, ℕ, suc, ◌+◌, ◌<◌, ◌≤◌, ◌==◌, Bool, true, false, not, cond, nat_le, List, [], ◌∷◌, length, filter, take, drop, get_or, refl, sym, subst, inl, inr, ◌∙◌, ap, arith, add-one, drop-cons}
-use Rattle.std.specs.List.{prefix_len, position_or_len, slice_split, before_first, after_first, onto_first}
+use Rattle.std.proofs.Common.{◌≡◌, ℕ, suc, ◌+◌, ◌<◌, ◌≤◌, ◌==◌, Bool, true, false, not, cond, nat_le, List, [], ◌∷◌, Option, Some, None, IfNone, MatchOption, length, filter, take, drop, get_or, refl, sym, subst, inl, inr, ◌∙◌, ap, arith, add-one, drop-cons}
+use Rattle.std.specs.List.{prefix_len, position_or_len, slice_split, onto_first}
 use Rattle.std.proofs.lemmas.Bool.Decides.{nat_tests}
 use Rattle.std.proofs.lemmas.List.{drop-drop, drop_all, take_all, length-take-le}
 use Rattle.std.proofs.lemmas.Bool.{cases_lt}
 use Rattle.std.proofs.lemmas.List.Splits.{slice_split_first, length-slice_split}
 use Rattle.std.proofs.lemmas.List.Sums.{prefix_len-le-length, prefix_len_stops}
 use Rattle.line_tokens.specs.Tokens.{is_blank}
+use Rattle.line_tokens.specs.Lines.{is_line_feed, lines_of}
 use Rattle.pres_text.specs.Lines.{without_empty_end, lines, words}
 
 split_step : {X : Type 0} (q : Bool) (x : X) (xs : List X) (n : ℕ) (parts : List (List X)) → cond (not q) (1 + n) 0 ≡ length (x ∷ xs) → (n ≡ length xs → parts ≡ xs ∷ [])
@@ -23,21 +24,37 @@ without_empty_end-cons : (a : List ℕ) (ps : List (List ℕ)) → 1 ≤ length 
 without_empty_end-cons a [] h = absurd (omega arith)
 without_empty_end-cons a (b ∷ ps) h = refl
 
--- the first line ends at the first line feed
-pub lines-front : (bs : List ℕ) (n : ℕ) → n ≡ position_or_len (λ b. b == 10) bs → n < length bs → lines bs ≡ take n bs ∷ lines (drop 1 (drop n bs))
-lines-front bs n e h =
-    let p : ℕ → Bool = λ b. b == 10 in
-    let few : position_or_len p bs < length bs = omega arith in
-    ap without_empty_end (slice_split_first p bs 0 few)
-    ∙ without_empty_end-cons (before_first p bs) (slice_split p (after_first p bs)) (omega (arith, length-slice_split p (after_first p bs)))
-    ∙ ap (λ m. take m bs ∷ lines (drop (m + 1) bs)) (sym e)
-    ∙ ap (λ r. take n bs ∷ lines r) (sym (drop-drop 1 n bs))
+-- the first line is that of the pieces, and there are more where there is something behind it
+pub lines-more : (bs l rest : List ℕ) → lines_of bs ≡ l ∷ lines_of rest → lines bs ≡ l ∷ lines rest
+lines-more bs l rest e =
+    ap without_empty_end e
+    ∙ without_empty_end-cons l (lines_of rest) (omega (arith, length-slice_split is_line_feed rest))
 
--- bytes without a line feed are one line
-pub lines-whole : (bs : List ℕ) → position_or_len (λ b. b == 10) bs ≡ length bs → 0 < length bs → lines bs ≡ bs ∷ []
-lines-whole bs e h =
-    let some : (length bs == 0) ≡ false = grind (arith, nat_tests) in
-    ap without_empty_end (split_none (λ b. b == 10) bs e) ∙ ap (λ q. cond q [] (bs ∷ [])) some
+-- the first line ends at the first line feed
+pub lines-front : (bs : List ℕ) (n : ℕ) → n ≡ position_or_len is_line_feed bs → n < length bs → lines bs ≡ take n bs ∷ lines (drop 1 (drop n bs))
+lines-front bs n e h =
+    lines-more bs (take n bs) (drop 1 (drop n bs))
+    (slice_split_first is_line_feed bs 0 (omega arith) ∙ ap (λ m. take m bs ∷ lines_of (drop (m + 1) bs)) (sym e)
+    ∙ ap (λ r. take n bs ∷ lines_of r) (sym (drop-drop 1 n bs)))
+
+pub lines-some : {A : Type 0} (seen : A → List ℕ) (bs l : List ℕ) (o : Option A) (rest : A) → o ≡ Some rest
+    → MatchOption o (lines_of bs ≡ l ∷ []) (λ r. lines_of bs ≡ l ∷ lines_of (seen r)) → lines bs ≡ l ∷ lines (seen rest)
+lines-some seen bs l None rest e h = cc
+lines-some seen bs l (Some r) rest e h =
+    let same : r ≡ rest = cc in
+    lines-more bs l (seen r) h ∙ ap (λ x. l ∷ lines (seen x)) same
+
+lines-last : (bs l : List ℕ) → lines_of bs ≡ l ∷ [] → l ≡ bs → 0 < length bs
+    → lines bs ≡ l ∷ lines []
+lines-last bs l e same h =
+    let some : (length l == 0) ≡ false = grind (arith, nat_tests, ap length same) in
+    ap without_empty_end e ∙ ap (λ q. cond q [] (l ∷ [])) some
+
+pub lines-none : {A : Type 0} (seen : A → List ℕ) (bs l : List ℕ) (o : Option A) → o ≡ None
+    → MatchOption o (lines_of bs ≡ l ∷ []) (λ r. lines_of bs ≡ l ∷ lines_of (seen r)) → IfNone o (l ≡ bs) → 0 < length bs
+    → lines bs ≡ l ∷ lines []
+lines-none seen bs l None e h same some = lines-last bs l h same some
+lines-none seen bs l (Some r) e h same some = cc
 
 abbrev kept : List (List ℕ) → List (List ℕ)
 kept pieces = filter (λ w. nat_le 1 (length w)) pieces

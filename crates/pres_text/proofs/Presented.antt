@@ -12,7 +12,8 @@ use Rattle.nil_pres.proofs.Naming.{absent_before}
 use Rattle.pres_text.specs.declared.file_kind.FileKind.{FileKind}
 use Rattle.pres_text.specs.declared.file_kind.FileKind.TheVariants as kind
 use Rattle.pres_text.specs.Lines.{Line, lines, content, words, is_text}
-use Rattle.pres_text.specs.FirstFault.{broken, is_header, header_fault, name_fault, names_fault, first_of, generator_words_fault, generators_fault, names_of, at_line, relations_fault, second_fault, lines_fault, first_fault}
+use Rattle.pres_text.specs.RelationFaults.{broken}
+use Rattle.pres_text.specs.FirstFault.{is_header, header_fault, name_fault, names_fault, first_of, generator_words_fault, generators_fault, names_of, at_line, relations_fault, second_fault, lines_fault, first_fault}
 use Rattle.pres_text.specs.File.{Relation, right_given, AreRelations, IsFile}
 use Rattle.pres_text.specs.Reading.{start, named, named_by, related, all_drafted}
 use Rattle.pres_text.proofs.Drafts.{IsShaped, IsShaped-draft_of, draft_of}
@@ -27,11 +28,11 @@ right_of-finished d j i h low order high =
     ap (λ (row : List (List Syllable)). get_or row (i - 1) []) (get_or-map (map (λ (right : Option (List Syllable)). unwrap_or right [])) d.rights (j - 1) [] [] in_rows)
     ∙ get_or-map (λ (right : Option (List Syllable)). unwrap_or right []) (get_or d.rights (j - 1) []) (i - 1) None [] in_row
 
-or_else-None : (o : Option (List Syllable)) → or_else o None ≡ o
+pub or_else-None : (o : Option (List Syllable)) → or_else o None ≡ o
 or_else-None None = refl
 or_else-None (Some x) = refl
 
-abbrev draft : List (List ℕ) → List Line → Draft
+abbrev pub draft : List (List ℕ) → List Line → Draft
 draft names ls = draft_of (named start names) (onto names [] ls)
 
 rights_found : (names : List (List ℕ)) (ls : List Line) (rs : List Relation) → IsFound names [] ls rs → (j i : ℕ) → 1 ≤ i → i < j → j ≤ length names → right_of (finished (draft names ls)) i j ≡ right_given rs j i

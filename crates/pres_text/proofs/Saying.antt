@@ -7,7 +7,8 @@ use Rattle.nil_pres.specs.Rights.{AreUpTo, IsRight}
 use Rattle.pres_text.specs.Lines.{Line, is_text}
 use Rattle.pres_text.specs.Relation.{Power, Spelled, IsSpelled, relation_word, spelling_of}
 use Rattle.pres_text.specs.Spelling.{clipped, syllable_of, syllables_of, spelled_clipped}
-use Rattle.pres_text.specs.FirstFault.{broken, is_exponent, is_zero, has_unknown, is_given, right_fault, spelled_fault, line_fault, at_line, with_given, relations_fault}
+use Rattle.pres_text.specs.RelationFaults.{broken, is_exponent, is_zero, has_unknown, is_given, right_fault, spelled_fault, line_fault, with_given}
+use Rattle.pres_text.specs.FirstFault.{at_line, relations_fault}
 use Rattle.pres_text.specs.declared.file_kind.FileKind.{FileKind}
 use Rattle.pres_text.specs.declared.file_kind.FileKind.TheVariants as kind
 use Rattle.pres_text.specs.File.{Relation, power_of, spelled_as, right_given, IsApart, AreRelations, none, more}

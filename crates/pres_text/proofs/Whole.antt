@@ -9,7 +9,8 @@ use Rattle.pres_text.specs.declared.pres_fault.PresFault.TheVariants.{File}
 use Rattle.pres_text.specs.Lines.{Line, is_text}
 use Rattle.pres_text.specs.Relation.{Spelled, spelling_of}
 use Rattle.pres_text.specs.Spelling.{spelled_clipped}
-use Rattle.pres_text.specs.FirstFault.{broken, first_of, has_unknown, is_given, right_fault, relation_fault, spelled_fault, line_fault, at_line, with_given, relations_fault, second_fault, lines_fault, header_fault, generators_fault, names_of}
+use Rattle.pres_text.specs.RelationFaults.{broken, has_unknown, is_given, right_fault, relation_fault, spelled_fault, line_fault, with_given}
+use Rattle.pres_text.specs.FirstFault.{first_of, at_line, relations_fault, second_fault, lines_fault, header_fault, generators_fault, names_of}
 use Rattle.pres_text.specs.Reading.{start, named, found_fault, drafted_fault, with_found, with_line, rest_fault, related, second_drafted_fault, all_drafted_fault}
 use Rattle.pres_text.proofs.Known.{found_known}
 use Rattle.pres_text.proofs.Agreement.{at, AgreesOnFound, found_fault-spelled_fault}

@@ -1,7 +1,11 @@
 -- Which presentation a file says.
+--   Relation              a relation of the generators above and below
+--   power_of s            the power that is spelled for a syllable
 --   spelled_as r          the spelling of a relation
 --   right_given rs j i    the right side that is given for a pair, and else the empty one
---   IsLawful n r          a relation of n generators is lawful
+--   IsLawful n r          r is of two of n generators, the first above the second, and its right
+--                         side is lawful
+--   IsApart r rs          none of these relations is of the pair of r
 --   AreRelations names texts rs    each text spells its relation, a lawful one of a pair of its own
 --   IsFile p file         the file says the presentation p
 use Rattle.std.specs.Prelude.{◌≡◌, ℕ, ◌<◌, ◌≤◌, ◌==◌, ◌&&◌, true, List, [], ◌∷◌, length, map, Some, codes, if◌then◌else◌}
@@ -12,7 +16,6 @@ use Rattle.line_tokens.specs.Tokens.{kinds}
 use Rattle.pres_text.specs.Lines.{content, words, is_text}
 use Rattle.pres_text.specs.Relation.{Power, Spelled, IsSpelled, relation_word}
 
--- a relation of the generators above and below
 pub record Relation : Type 0 where
   pub above : ℕ
   pub below : ℕ
@@ -28,22 +31,21 @@ abbrev pub right_given : List Relation → ℕ → ℕ → List Syllable
 right_given [] j i = []
 right_given (r ∷ rs) j i = if (r.above == j) && (r.below == i) then r.right else right_given rs j i
 
--- a relation of two of n generators, the first one above the second, with a lawful right side
 pub record IsLawful (n : ℕ) (r : Relation) : Type 0 where
   pub low : 1 ≤ r.below
   pub order : r.below < r.above
   pub right : IsRight r.above n r.right
 
--- no other relation is of the same pair
 abbrev pub IsApart : Relation → List Relation → Type 0
 IsApart r [] = Unit {0}
 IsApart r (s ∷ rs) = (s.above ≡ r.above → s.below ≡ r.below → ⊥) × IsApart r rs
 
 pub data AreRelations (names : List (List ℕ)) : List (List ℕ) → List Relation → Type 0 where
   none : AreRelations names [] []
-  more : (text : List ℕ) (texts : List (List ℕ)) (r : Relation) (rs : List Relation) → is_text text ≡ true
-      → IsSpelled (kinds (relation_word names) text) (spelled_as r) → IsLawful (length names) r → IsApart r rs
-      → AreRelations names texts rs → AreRelations names (text ∷ texts) (r ∷ rs)
+  more : (text : List ℕ) (texts : List (List ℕ)) (r : Relation) (rs : List Relation)
+      → is_text text ≡ true → IsSpelled (kinds (relation_word names) text) (spelled_as r)
+      → IsLawful (length names) r → IsApart r rs → AreRelations names texts rs
+      → AreRelations names (text ∷ texts) (r ∷ rs)
 
 pub record IsFile (p : Presented) (file : List ℕ) : Type 0 where
   -- the texts of the lines that say something
@@ -60,4 +62,5 @@ pub record IsFile (p : Presented) (file : List ℕ) : Type 0 where
   pub are_relations : AreRelations p.names others relations
   -- the presentation is lawful, and has the right sides that are given
   pub lawful : IsPresented p
-  pub rights : (j i : ℕ) → 1 ≤ i → i < j → j ≤ length p.names → right_of p i j ≡ right_given relations j i
+  pub rights : (j i : ℕ) → 1 ≤ i → i < j → j ≤ length p.names
+      → right_of p i j ≡ right_given relations j i

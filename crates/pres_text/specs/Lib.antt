@@ -1,6 +1,7 @@
 pub mod FaultTexts
 pub mod Lines
 pub mod Relation
+pub mod RelationFaults
 pub mod FirstFault
 pub mod File
 pub mod Spelling

@@ -1,13 +1,17 @@
 -- The lines of a presentation file that say something, and their words.
---   lines file       the pieces between line feeds; the last one is a line where it isn't empty
---   Line             a line with its number, from 1, without a carriage return at its end
---   content file     the lines that say something: the others are blank or begin with a #
---   words text       the longest runs of bytes that aren't blanks
---   is_text text     each byte is a tab or 32 to 126
+--   without_empty_end ls   the lines but the last one, where that is empty
+--   lines file             the pieces between line feeds; an empty last one is no line
+--   Line                   a line with its number, from 1, without a carriage return at its end
+--   content_from n ls      the lines that say something among those from the number n on
+--   content file           the lines that say something: the others are blank or begin with a #
+--   words text             the longest runs of bytes that aren't blanks
+--   is_text_byte b         b is a tab or 32 to 126
+--   is_text text           each byte is one of these
 use Rattle.std.specs.Prelude.{ℕ, ◌+◌, ◌==◌, ◌&&◌, ◌||◌, nat_le, Bool, List, [], ◌∷◌, length, filter, if◌then◌else◌}
 use Rattle.std.specs.List.{list_all, slice_split}
 use Rattle.std.specs.Str.Lines.{strip_carriage_return}
 use Rattle.line_tokens.specs.Tokens.{is_blank, is_silent}
+use Rattle.line_tokens.specs.Lines.{lines_of}
 
 abbrev pub without_empty_end : List (List ℕ) → List (List ℕ)
 without_empty_end [] = []
@@ -15,13 +19,12 @@ without_empty_end (piece ∷ []) = if length piece == 0 then [] else piece ∷ [
 without_empty_end (piece ∷ next ∷ more) = piece ∷ without_empty_end (next ∷ more)
 
 abbrev pub lines : List ℕ → List (List ℕ)
-lines file = without_empty_end (slice_split (λ b. b == 10) file)
+lines file = without_empty_end (lines_of file)
 
 pub record Line : Type 0 where
   pub number : ℕ
   pub text : List ℕ
 
--- the lines that say something among those from a number on
 abbrev pub content_from : ℕ → List (List ℕ) → List Line
 content_from n [] = []
 content_from n (l ∷ ls) =

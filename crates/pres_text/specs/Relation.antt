@@ -1,12 +1,17 @@
 -- A relation line as it is spelled, by the kinds of its tokens.
 --   Power                 a name, and the exponent behind it, 1 where none is written
 --   Spelled               the generators of the bracket, and the powers of the right side
+--   IsPower ks rest p     the tokens are one power, before others
+--   ArePowers ks ps       they are one power or more, joined by *
+--   IsRightSide ks ps     they are powers, or 1
 --   IsSpelled ks s        the grammar: the tokens spell s
+--   before g n ps         one more power before others
+--   powers_by ks, right_by ks   the powers, and the right side, that tokens spell, or None
 --   spelled_by ks         what the tokens spell, None where they have not the form of a relation
 --   relation_word names   the meaning of a word: whatever it is, it is a name
 --   spelling_of names l   what a line spells
 -- A name has the number of its generator, or 0 where no generator has it. An exponent is None where
--- its magnitude is above 2 ^ 127 - 1.
+-- its magnitude overflows.
 use Rattle.std.specs.Prelude.{ℕ, Bool, true, ℤ, pos, List, [], ◌∷◌, Option, Some, None, option_map}
 use Rattle.line_tokens.specs.declared.kind.Kind.{Kind}
 use Rattle.line_tokens.specs.declared.kind.Kind.TheVariants as k
@@ -21,19 +26,17 @@ pub record Spelled : Type 0 where
   pub below : ℕ
   pub right : List Power
 
--- the tokens of one power, before others
 pub data IsPower : List Kind → List Kind → Power → Type 0 where
   plain : (g : ℕ) (rest : List Kind) → IsPower (k.Name g ∷ rest) rest
       (record { number = g; exponent = Some (pos 1) })
   raised : (g : ℕ) (is_one : Bool) (n : Option ℤ) (rest : List Kind)
-      → IsPower (k.Name g ∷ k.Caret ∷ k.Integer is_one n ∷ rest) rest (record { number = g; exponent = n })
+      → IsPower (k.Name g ∷ k.Caret ∷ k.Integer is_one n ∷ rest) rest
+      (record { number = g; exponent = n })
 
--- one power or more, joined by *
 pub data ArePowers : List Kind → List Power → Type 0 where
   last : (ks : List Kind) (p : Power) → IsPower ks [] p → ArePowers ks (p ∷ [])
   times : (ks more : List Kind) (p : Power) (ps : List Power) → IsPower ks (k.Star ∷ more) p
-      → ArePowers more ps
-      → ArePowers ks (p ∷ ps)
+      → ArePowers more ps → ArePowers ks (p ∷ ps)
 
 pub data IsRightSide : List Kind → List Power → Type 0 where
   empty : (n : Option ℤ) → IsRightSide (k.Integer true n ∷ []) []
@@ -44,7 +47,6 @@ pub data IsSpelled : List Kind → Spelled → Type 0 where
       → IsSpelled (k.SquareOpen ∷ k.Name j ∷ k.Comma ∷ k.Name i ∷ k.SquareClose ∷ k.Equal ∷ ks)
       (record { above = j; below = i; right = ps })
 
--- one more power before others
 abbrev pub before : ℕ → Option ℤ → Option (List Power) → Option (List Power)
 before g n ps = option_map (λ rest. record { number = g; exponent = n } ∷ rest) ps
 

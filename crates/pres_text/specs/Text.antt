@@ -1,7 +1,9 @@
 -- The canonical text of a presentation.
 --   name_of names k         the name of a generator
---   power_text, right_text  a power with its exponent where that isn't 1, and powers joined by *
---   line_text p j i         the line of a pair with a right side that isn't empty
+--   power_text names s      a power with its exponent where that isn't 1
+--   right_text names ss     powers joined by *
+--   bracket_text names j i  the left side of a relation, up to the right side
+--   line_text names j i ss  the line of a pair with a right side that isn't empty
 --   pairs_text p j n        the lines of a generator and those up to the n-th below it
 --   relations_text p n      the lines of the first n generators
 --   names_text names n      the first n names, each behind a space
@@ -17,14 +19,18 @@ abbrev pub name_of : List (List ℕ) → ℕ → List ℕ
 name_of names k = slice_index_or names (k - 1) []
 
 abbrev pub power_text : List (List ℕ) → Syllable → List ℕ
-power_text names s = name_of names s.number ++ (if int_eq s.exp (pos 1) then [] else codes "^" ++ signed_decimal s.exp)
+power_text names s =
+    name_of names s.number
+    ++ (if int_eq s.exp (pos 1) then [] else codes "^" ++ signed_decimal s.exp)
 
 abbrev pub right_text : List (List ℕ) → List Syllable → List ℕ
 right_text names [] = []
-right_text names (s ∷ right) = power_text names s ++ flat_map (λ t. codes "*" ++ power_text names t) right
+right_text names (s ∷ right) =
+    power_text names s ++ flat_map (λ t. codes "*" ++ power_text names t) right
 
 abbrev pub bracket_text : List (List ℕ) → ℕ → ℕ → List ℕ
-bracket_text names j i = codes "[" ++ name_of names j ++ codes "," ++ name_of names i ++ codes "] = "
+bracket_text names j i =
+    codes "[" ++ name_of names j ++ codes "," ++ name_of names i ++ codes "] = "
 
 abbrev pub line_text : List (List ℕ) → ℕ → ℕ → List Syllable → List ℕ
 line_text names j i [] = []
@@ -44,4 +50,5 @@ names_text names (suc k) = names_text names k ++ codes " " ++ name_of names (suc
 
 abbrev pub text_of : Presented → List ℕ
 text_of p =
-    (codes "nilpotent 1" ++ 10 ∷ codes "generators") ++ names_text p.names (length p.names) ++ 10 ∷ [] ++ relations_text p (length p.names)
+    (codes "nilpotent 1" ++ 10 ∷ codes "generators") ++ names_text p.names (length p.names)
+    ++ 10 ∷ [] ++ relations_text p (length p.names)

@@ -4,10 +4,11 @@ ghost use Rattle.std.specs.Prelude.{◌≡◌, [], IfSome, IfNone, OnOk, IsErrOf
 ghost use Rattle.std.specs.Str.{IsAscii};
 ghost use Rattle.nil_pres.specs.Presented.{with_name};
 ghost use Rattle.nil_pres.specs.declared.name_fault.NameFault.{NameFault};
+ghost use Rattle.nil_num.specs.Outcome.{Gives};
 ghost use Rattle.pres_text.specs.declared.file_kind.FileKind.{FileKind};
 ghost use Rattle.pres_text.specs.Lines.{words};
 ghost use Rattle.pres_text.specs.FirstFault.{is_header, header_fault, name_fault, names_fault, generators_fault, names_of};
-ghost use Rattle.pres_text.specs.Reading.{Gives, name_fault_at, named};
+ghost use Rattle.pres_text.specs.Reading.{fault_place, name_fault_at, named};
 
 use super::file_kind::FileKind;
 use super::lines::Line;
@@ -67,7 +68,8 @@ fn add_word(builder: &mut Builder, line: u64, word: &[u8]) -> Result<(), PresFau
     requires { IsAscii word.now }
     ensures fault { IfSome (name_fault builder.old.names word.now)
         (λ kind. IsErrOf result (PresFault.File line kind)) }
-    ensures fine { IfNone (name_fault builder.old.names word.now) (IsOkUnless result PresFault.Memory) }
+    ensures fine { IfNone (name_fault builder.old.names word.now)
+        (IsOkUnless result PresFault.Memory) }
     ensures ok { OnOk result (builder.new ≡ with_name builder.old word.now) }
 {
     let Ok(name) = str::from_utf8(word) else {
@@ -83,16 +85,14 @@ fn add_word(builder: &mut Builder, line: u64, word: &[u8]) -> Result<(), PresFau
 fn add_words(builder: &mut Builder, line: u64, names: &[u8]) -> Result<(), PresFault>
     requires { IsAscii names.now }
     ensures fault { IfSome (names_fault builder.old.names (words names.now))
-        (λ kind. Gives result (Err (PresFault.File line kind))) }
+        (λ kind. Gives fault_place result (λ r. r ≡ Err (PresFault.File line kind))) }
     ensures fine { IfNone (names_fault builder.old.names (words names.now))
         (IsOkUnless result PresFault.Memory) }
     ensures ok { OnOk result (builder.new ≡ named builder.old (words names.now)) }
 {
     let mut rest = names;
     'names: while let Some((word, more)) = next_word(rest) {
-        if let Err(fault) = add_word(builder, line, word) {
-            return Err(fault);
-        }
+        add_word(builder, line, word)?;
         rest = more;
     }
     Ok(())
@@ -102,8 +102,10 @@ fn add_words(builder: &mut Builder, line: u64, names: &[u8]) -> Result<(), PresF
 pub(super) fn add_generators(builder: &mut Builder, line: &Line) -> Result<(), PresFault>
     requires { builder.old.names ≡ [] }
     ensures fault { IfSome (generators_fault line.now.text.now)
-        (λ kind. Gives result (Err (PresFault.File line.now.number kind))) }
-    ensures fine { IfNone (generators_fault line.now.text.now) (IsOkUnless result PresFault.Memory) }
+        (λ kind. Gives fault_place result
+        (λ r. r ≡ Err (PresFault.File line.now.number kind))) }
+    ensures fine { IfNone (generators_fault line.now.text.now)
+        (IsOkUnless result PresFault.Memory) }
     ensures ok { OnOk result (builder.new ≡ named builder.old (names_of line.now.text.now)) }
 {
     if !is_text(line.text) {

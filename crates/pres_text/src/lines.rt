@@ -1,11 +1,10 @@
 //! Lines of a file that say something.
 
-ghost use Rattle.std.specs.Prelude.{◌≡◌, ◌==◌, ◌+◌, ◌-◌, ◌^◌, ◌<◌, ◌≤◌, [], ◌∷◌, length, MatchOption, IfNone, IfSome};
-ghost use Rattle.std.specs.List.{position_or_len};
-ghost use Rattle.std.specs.Str.Lines.{strip_carriage_return};
+ghost use Rattle.std.specs.Prelude.{◌≡◌, ◌+◌, ◌^◌, ◌<◌, ◌≤◌, [], ◌∷◌, length, MatchOption, IfNone, IfSome};
 ghost use Rattle.pres_text.specs.Lines.{lines, content_from};
+ghost use Rattle.pres_text.specs.Seen.{line_seen};
 
-use line_tokens::silent;
+use line_tokens::{silent, split_line, without_return};
 
 /// A line with its number, from 1, without a carriage return at its end.
 #[derive(Drop)]
@@ -22,36 +21,16 @@ pub(super) struct Lines<'a> {
     ghost fits: { number + length rest.now < 2 ^ 64 },
 }
 
-/// How many bytes stand before the first line feed.
-fn line_len(bytes: &[u8]) -> usize
-    ensures len { result ≡ position_or_len (λ b. b == 10) bytes.now }
-    ensures within { result ≤ length bytes.now }
-{
-    bytes.iter().take_while(|byte| **byte != b'\n').count()
-}
-
 /// The line at the front of bytes, and those behind it.
 fn first_line(bytes: &[u8]) -> (&[u8], &[u8])
     requires { 0 < length bytes.now }
     ensures line { lines bytes.now ≡ result.0.now ∷ lines result.1.now }
     ensures less { length result.1.now < length bytes.now }
 {
-    let end = line_len(bytes);
-    if end == bytes.len() {
-        return (bytes, &[]);
-    }
-    let (line, rest) = bytes.split_at(end);
-    let (_, rest) = rest.split_at(1);
-    (line, rest)
-}
-
-/// The line without a carriage return at its end.
-fn stripped(line: &[u8]) -> &[u8]
-    ensures { result.now ≡ strip_carriage_return line.now }
-{
-    match line {
-        [front @ .., b'\r'] => front,
-        _ => line,
+    let (line, rest) = split_line(bytes);
+    match rest {
+        Some(rest) => (line, rest),
+        None => (line, &[]),
     }
 }
 
@@ -69,8 +48,10 @@ impl<'a> Lines<'a> {
 
     /// The next line that says something.
     pub fn next_content(&mut self) -> Option<Line<'a>>
-        ensures line { MatchOption result (content_from self.old.number (lines self.old.rest.now) ≡ [])
-            (λ l. content_from self.old.number (lines self.old.rest.now) ≡ (record { number = l.number; text = l.text.now }) ∷ content_from self.new.number (lines self.new.rest.now)) }
+        ensures line { MatchOption result
+            (content_from self.old.number (lines self.old.rest.now) ≡ [])
+            (λ l. content_from self.old.number (lines self.old.rest.now) ≡ line_seen l
+            ∷ content_from self.new.number (lines self.new.rest.now)) }
         ensures end { self.new.number + length (lines self.new.rest.now) ≡ self.old.number + length
             (lines self.old.rest.now) }
         ensures all { IfNone result (self.new.rest.now ≡ []) }
@@ -78,7 +59,7 @@ impl<'a> Lines<'a> {
     {
         while self.rest.len() > 0 {
             let (line, rest) = first_line(self.rest);
-            let text = stripped(line);
+            let text = without_return(line);
             let number = self.number;
             self.rest = rest;
             self.number = number + 1;

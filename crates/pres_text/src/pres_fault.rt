@@ -1,6 +1,7 @@
 //! Why a presentation file isn't read.
 
 ghost use Rattle.std.specs.Prelude.{◌≡◌, Some, IfOk, string_bytes};
+ghost use Rattle.pres_text.specs.declared.pres_fault.PresFault.TheVariants.{Memory as memory};
 ghost use Rattle.pres_text.specs.FaultTexts.{fault_text, file_fault_text};
 
 use super::file_kind::FileKind;
@@ -14,6 +15,14 @@ use std::fmt;
 pub enum PresFault {
     File { line: u64, kind: FileKind },
     Memory,
+}
+
+impl From<Memory> for PresFault {
+    ghost from_gives = { λ _ fault. fault ≡ memory };
+
+    fn from(_refused: Memory) -> PresFault {
+        PresFault::Memory
+    }
 }
 
 impl fmt::Display for PresFault {

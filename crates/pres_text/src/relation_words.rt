@@ -16,8 +16,8 @@ impl Vocabulary for RelationWords<'_> {
 
     fn kind_of(&self, run: &str) -> Kind {
         match self.builder.index_of(run) {
-            Some(number) => Kind::Name(number),
-            None => Kind::Name(0),
+            Some(number) => Kind::Name { number },
+            None => Kind::Name { number: 0 },
         }
     }
 }

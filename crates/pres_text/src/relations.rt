@@ -3,9 +3,10 @@
 ghost use Rattle.std.specs.Prelude.{◌≡◌, ◌==◌, ◌≤◌, length, IfSome, IfNone, OnOk, IsErrOf, IsOkUnless, Err};
 ghost use Rattle.std.specs.List.{list_any};
 ghost use Rattle.nil_pres.specs.Rights.{AreUpTo};
+ghost use Rattle.nil_num.specs.Outcome.{Gives};
 ghost use Rattle.pres_text.specs.Lines.{lines, content_from};
 ghost use Rattle.pres_text.specs.Seen.{spelled_seen, line_seen};
-ghost use Rattle.pres_text.specs.Reading.{Gives, relation_fault_at, has_unknown_number, clipped_fault, with_clipped, drafted_fault, with_line, rest_fault, related};
+ghost use Rattle.pres_text.specs.Reading.{fault_place, relation_fault_at, has_unknown_number, clipped_fault, with_clipped, drafted_fault, with_line, rest_fault, related};
 
 use super::file_kind::FileKind;
 use super::lines::{Line, Lines};
@@ -87,7 +88,8 @@ fn add_relation(
 
 /// Adds the relation of a line.
 fn add_line(alloc: Global, builder: &mut Builder, line: &Line) -> Result<(), PresFault>
-    ensures fault { IfSome (drafted_fault builder.old (line_seen line.now)) (λ f. Gives result (Err f)) }
+    ensures fault { IfSome (drafted_fault builder.old (line_seen line.now))
+        (λ f. Gives fault_place result (λ r. r ≡ Err f)) }
     ensures fine { IfNone (drafted_fault builder.old (line_seen line.now))
         (IsOkUnless result PresFault.Memory) }
     ensures ok { OnOk result (builder.new ≡ with_line builder.old (line_seen line.now)) }
@@ -98,16 +100,13 @@ fn add_line(alloc: Global, builder: &mut Builder, line: &Line) -> Result<(), Pre
             kind: FileKind::NotText,
         });
     }
-    let Ok(tokens) = cut(alloc, &RelationWords { builder: &*builder }, line.text) else {
-        return Err(PresFault::Memory);
-    };
-    match spelled(alloc, tokens.as_slice()) {
-        Err(_) => Err(PresFault::Memory),
-        Ok(None) => Err(PresFault::File {
+    let tokens = cut(alloc, &RelationWords { builder: &*builder }, line.text)?;
+    match spelled(alloc, tokens.as_slice())? {
+        None => Err(PresFault::File {
             line: line.number,
             kind: FileKind::Relation,
         }),
-        Ok(Some(relation)) => add_relation(builder, line.number, &relation),
+        Some(relation) => add_relation(builder, line.number, &relation),
     }
 }
 
@@ -118,7 +117,8 @@ pub(super) fn add_lines(
     left: &mut Lines,
 ) -> Result<(), PresFault>
     ensures fault { IfSome (rest_fault builder.old
-        (content_from left.old.number (lines left.old.rest.now))) (λ f. Gives result (Err f)) }
+        (content_from left.old.number (lines left.old.rest.now)))
+        (λ f. Gives fault_place result (λ r. r ≡ Err f)) }
     ensures fine { IfNone (rest_fault builder.old
         (content_from left.old.number (lines left.old.rest.now)))
         (IsOkUnless result PresFault.Memory) }
@@ -126,9 +126,7 @@ pub(super) fn add_lines(
         (content_from left.old.number (lines left.old.rest.now))) }
 {
     'lines: while let Some(line) = left.next_content() {
-        if let Err(fault) = add_line(alloc, builder, &line) {
-            return Err(fault);
-        }
+        add_line(alloc, builder, &line)?;
     }
     Ok(())
 }

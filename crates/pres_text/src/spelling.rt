@@ -43,7 +43,7 @@ fn power(tokens: &[Token]) -> Option<(Syllable, &[Token])>
     match tokens {
         [
             Token {
-                kind: Kind::Name(number),
+                kind: Kind::Name { number },
                 ..
             },
             Token {
@@ -51,7 +51,7 @@ fn power(tokens: &[Token]) -> Option<(Syllable, &[Token])>
                 ..
             },
             Token {
-                kind: Kind::Integer(_, value),
+                kind: Kind::Integer { value, .. },
                 ..
             },
             rest @ ..,
@@ -64,7 +64,7 @@ fn power(tokens: &[Token]) -> Option<(Syllable, &[Token])>
         )),
         [
             Token {
-                kind: Kind::Name(number),
+                kind: Kind::Name { number },
                 ..
             },
             rest @ ..,
@@ -93,7 +93,7 @@ fn bracket(tokens: &[Token]) -> Option<(u32, u32, &[Token])>
                 ..
             },
             Token {
-                kind: Kind::Name(above),
+                kind: Kind::Name { number: above },
                 ..
             },
             Token {
@@ -101,7 +101,7 @@ fn bracket(tokens: &[Token]) -> Option<(u32, u32, &[Token])>
                 ..
             },
             Token {
-                kind: Kind::Name(below),
+                kind: Kind::Name { number: below },
                 ..
             },
             Token {
@@ -121,7 +121,8 @@ fn bracket(tokens: &[Token]) -> Option<(u32, u32, &[Token])>
 /// The tokens behind a `*` at the front.
 fn behind_star(tokens: &[Token]) -> Option<&[Token]>
     ensures less { IfSome result (λ r. length r.now < length tokens.now) }
-    ensures star { option_map (λ r. map (λ t. t.kind) r.now) result ≡ star_by (map (λ t. t.kind) tokens.now) }
+    ensures star { option_map (λ r. map (λ t. t.kind) r.now) result ≡ star_by
+        (map (λ t. t.kind) tokens.now) }
 {
     match tokens {
         [
@@ -165,7 +166,7 @@ fn right_side(alloc: Global, tokens: &[Token]) -> Result<Option<Vec<Syllable>>, 
     match tokens {
         [
             Token {
-                kind: Kind::Integer(true, _),
+                kind: Kind::Integer { is_one: true, .. },
                 ..
             },
         ] => Ok(Some(Vec::new(alloc))),

@@ -26,7 +26,8 @@ fn word_len(text: &[u8]) -> usize
 
 /// The first word of a text, and what stands behind it.
 pub(super) fn next_word(text: &[u8]) -> Option<(&[u8], &[u8])>
-    ensures word { MatchOption result (words text.now ≡ []) (λ r. words text.now ≡ r.0.now ∷ words r.1.now) }
+    ensures word { MatchOption result (words text.now ≡ [])
+        (λ r. words text.now ≡ r.0.now ∷ words r.1.now) }
     ensures less { IfSome result (λ r. length r.1.now < length text.now) }
     ensures ascii { IsAscii text.now → IfSome result (λ r. IsAscii r.0.now × IsAscii r.1.now) }
 {

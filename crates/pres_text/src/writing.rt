@@ -14,7 +14,8 @@ use std::alloc::Global;
 fn put_name(text: &mut String, pres: &Presentation, k: u32) -> Result<(), Memory>
     requires least { 1 ≤ k }
     requires most { k ≤ length pres.now.names }
-    ensures { OnOk result (string_bytes text.new ≡ string_bytes text.old ++ name_of pres.now.names k) }
+    ensures { OnOk result (string_bytes text.new ≡ string_bytes text.old
+        ++ name_of pres.now.names k) }
 {
     text.push_str(pres.name(k))
 }
@@ -80,7 +81,8 @@ fn put_line(text: &mut String, pres: &Presentation, j: u32, i: u32) -> Result<()
 fn put_pairs(text: &mut String, pres: &Presentation, j: u32) -> Result<(), Memory>
     requires least { 1 ≤ j }
     requires most { j ≤ length pres.now.names }
-    ensures { OnOk result (string_bytes text.new ≡ string_bytes text.old ++ pairs_text pres.now j (j - 1)) }
+    ensures { OnOk result (string_bytes text.new ≡ string_bytes text.old
+        ++ pairs_text pres.now j (j - 1)) }
 {
     'pairs: for i in 0..j - 1 {
         put_line(text, pres, j, i + 1)?;

@@ -1,12 +1,13 @@
 -- The tokens of a query line are within bounds, and what is read of them is well shaped.
 --   is_bounded n k    a generator up to n or unknown, an integer within bounds or without a value, or anything else
 --   AreBounded n ts   all of them are
-use Rattle.std.proofs.Common.{◌≡◌, ℕ, zero, suc, ◌+◌, ◌-◌, ◌^◌, ◌==◌, ◌<◌, nat_le, Bool, true, false, cond, ◌&&◌, ◌||◌, pos, neg_ℤ, Option, Some, None, option_map, unwrap_or, position, List, [], ◌∷◌, length, Result, Ok, Err, IfOk, refl, arith}
+use Rattle.std.proofs.Common.{◌≡◌, ℕ, zero, suc, ◌+◌, ◌-◌, ◌^◌, ◌==◌, ◌<◌, nat_le, Bool, true, false, cond, ◌&&◌, ◌||◌, pos, neg_ℤ, Option, Some, None, option_map, unwrap_or, position, List, [], ◌∷◌, length, Result, Ok, Err, IfOk, refl, arith, if◌then◌else◌}
 use Rattle.std.specs.Prelude.{codes}
 use Rattle.std.specs.List.{prefix_len, take_while}
 use Rattle.std.specs.Str.{bytes_eq}
 use Rattle.std.proofs.lemmas.Bool.Decides.{nat_tests}
 use Rattle.std.proofs.lemmas.List.Quantifiers.{position-Some}
+use Rattle.nil_num.specs.Bound.{overflows}
 use Rattle.nil_word.specs.declared.query.Query.{Query}
 use Rattle.nil_word.specs.Expressions.{is_within}
 use Rattle.nil_pres.specs.Presented.{is_letter, is_name_byte}
@@ -19,7 +20,8 @@ use Rattle.word_text.specs.declared.query_fault.QueryFault.TheVariants as fault
 use Rattle.word_text.specs.Words.{query_word, query_tokens}
 use Rattle.word_text.specs.Faults.{kinds_of, deeper, is_caret}
 use Rattle.word_text.specs.Lines.{ReadsAs, blank, says}
-use Rattle.word_text.specs.Machine.{State, next, start}
+use Rattle.word_text.specs.State.{State}
+use Rattle.word_text.specs.Machine.{next, start}
 use Rattle.word_text.specs.Shaping.{IsShapedQuery}
 use Rattle.word_text.specs.Verdict.{trouble, judged, verdict_from}
 use Rattle.word_text.proofs.Judged.{read_verdict}
@@ -70,18 +72,18 @@ single_bounded n b = chosen (b == 42) (b == 94) (b == 40) (b == 41) (b == 91) (b
     chosen false false false false false false false false true = refl
     chosen false false false false false false false false false = refl
 
-positive_within : (m : ℕ) → nat_le m (2 ^ 127 - 1) ≡ true → is_within (pos m) ≡ true
-positive_within m h = grind (arith, nat_tests)
+within_of : (m : ℕ) → overflows m ≡ false → is_within (pos m) ≡ true
+within_of m h = grind (arith, nat_tests)
 
-negative_within : (m : ℕ) → nat_le m (2 ^ 127 - 1) ≡ true → is_within (neg_ℤ (pos m)) ≡ true
+negative_within : (m : ℕ) → overflows m ≡ false → is_within (neg_ℤ (pos m)) ≡ true
 negative_within zero h = refl
 negative_within (suc m) h = grind (arith, nat_tests)
 
-integer_bounded : (n : ℕ) (is_one negative : Bool) (m : ℕ) (fits : Bool) → nat_le m (2 ^ 127 - 1) ≡ fits
-    → is_bounded n (k.Integer is_one (cond fits (Some (cond negative (neg_ℤ (pos m)) (pos m))) None)) ≡ true
-integer_bounded n is_one negative m false h = refl
-integer_bounded n is_one false m true h = positive_within m h
-integer_bounded n is_one true m true h = negative_within m h
+integer_bounded : (n : ℕ) (is_one negative : Bool) (m : ℕ) (over : Bool) → overflows m ≡ over
+    → is_bounded n (k.Integer is_one (if over then None else Some (cond negative (neg_ℤ (pos m)) (pos m)))) ≡ true
+integer_bounded n is_one negative m true h = refl
+integer_bounded n is_one false m false h = within_of m h
+integer_bounded n is_one true m false h = negative_within m h
 
 token_bounded : (names : List (List ℕ)) (b : ℕ) (bs : List ℕ) → is_bounded (length names) (token_at (query_word names) b bs).0 ≡ true
 token_bounded names b bs =
@@ -93,9 +95,9 @@ token_bounded names b bs =
         (cond minus (integer true (take_while is_digit bs), prefix_len is_digit bs) (single b, 0)))).0 ≡ true
     chosen true digits minus = word_bounded names (b ∷ take_while is_name_byte bs)
     chosen false true minus =
-        integer_bounded (length names) (bytes_eq (b ∷ take_while is_digit bs) (49 ∷ [])) false (number_from 0 (b ∷ take_while is_digit bs)) (nat_le (number_from 0 (b ∷ take_while is_digit bs)) (2 ^ 127 - 1)) refl
+        integer_bounded (length names) (bytes_eq (b ∷ take_while is_digit bs) (codes "1")) false (number_from 0 (b ∷ take_while is_digit bs)) (overflows (number_from 0 (b ∷ take_while is_digit bs))) refl
     chosen false false true =
-        integer_bounded (length names) false true (number_from 0 (take_while is_digit bs)) (nat_le (number_from 0 (take_while is_digit bs)) (2 ^ 127 - 1)) refl
+        integer_bounded (length names) false true (number_from 0 (take_while is_digit bs)) (overflows (number_from 0 (take_while is_digit bs))) refl
     chosen false false false = single_bounded (length names) b
 
 either_bounded : (n : ℕ) (b : Bool) (ts us : List Token) → AreBounded n ts → AreBounded n us → AreBounded n (cond b ts us)

@@ -1,5 +1,5 @@
 -- What a line says is decided by whether it is silent, and else by its tokens.
-use Rattle.std.proofs.Common.{◌≡◌, ℕ, true, false, List, length, Result, Ok, Err, IfOk, IfErr, refl}
+use Rattle.std.proofs.Common.{◌≡◌, ℕ, true, false, List, length, Result, Ok, Err, IfOk, IfErr, IfSome, refl}
 use Rattle.nil_word.specs.declared.query.Query.{Query}
 use Rattle.nil_word.specs.declared.query.Query.TheVariants as query
 use Rattle.line_tokens.specs.Tokens.{is_silent}
@@ -8,7 +8,7 @@ use Rattle.word_text.specs.declared.query_fault.QueryFault.TheVariants as fault
 use Rattle.word_text.specs.Words.{query_tokens}
 use Rattle.word_text.specs.Faults.{IsRead, IsFirstFault}
 use Rattle.word_text.specs.Lines.{ReadsAs, FailsWith, blank, says}
-use Rattle.word_text.specs.Seen.{IsMemoryOr}
+use Rattle.word_text.specs.Seen.{fault_place}
 
 -- a silent line reads as the blank query alone
 pub silent_reads : (names : List (List ℕ)) (line : List ℕ) (q : Query) → is_silent line ≡ true → ReadsAs names line q → query.Blank ≡ q
@@ -25,7 +25,7 @@ reads_tokens names line (Ok q) s h = says q s h
 reads_tokens names line (Err f) s h = tt
 
 pub fails_tokens : (names : List (List ℕ)) (line : List ℕ) (r : Result Query QueryFault) → is_silent line ≡ false
-    → IfErr r (λ f. IsMemoryOr f (IsFirstFault (query_tokens names line) (length line) f)) → IfErr r (λ f. IsMemoryOr f (FailsWith names line f))
+    → IfErr r (λ f. IfSome (fault_place f) (IsFirstFault (query_tokens names line) (length line))) → IfErr r (λ f. IfSome (fault_place f) (FailsWith names line))
 fails_tokens names line (Ok q) s h = tt
 fails_tokens names line (Err fault.Memory) s h = tt
 fails_tokens names line (Err (fault.Syntax p)) s h = record { says = s; first = h }

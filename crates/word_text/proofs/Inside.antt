@@ -1,10 +1,11 @@
 -- Inside brackets a line neither goes on as it does outside, nor ends.
 use Rattle.std.proofs.Common.{◌≡◌, Bool, false, List, [], ◌∷◌, reverse, length, Option, None, IsTrue, ◌↔◌, refl, sym, ◌∙◌, ap}
 use Rattle.std.proofs.lemmas.List.{length-reverse, nil_from_length}
-use Rattle.word_text.specs.declared.state.Frame.{Frame}
-use Rattle.word_text.specs.declared.state.Head.{Head}
-use Rattle.word_text.specs.declared.state.Now.{Now}
-use Rattle.word_text.specs.Machine.{next_part, whole_at}
+use Rattle.word_text.specs.declared.frame.Frame.{Frame}
+use Rattle.word_text.specs.declared.head.Head.{Head}
+use Rattle.word_text.specs.declared.now.Now.{Now}
+use Rattle.word_text.specs.Machine.{next_part}
+use Rattle.word_text.specs.Running.{whole_at}
 
 is_off : (b : Bool) → b ≡ false → IsTrue b → ⊥
 is_off b e h = cc

@@ -15,9 +15,12 @@ use Rattle.word_text.specs.Words.{query_word, query_tokens}
 use Rattle.word_text.specs.Grammar.{IsExpr, IsLine, value, same, solve, quotient}
 use Rattle.word_text.specs.Faults.{kinds_of, deeper, is_caret}
 use Rattle.word_text.specs.Lines.{ReadsAs, blank, says}
-use Rattle.word_text.specs.Machine.{State, start, next, ended, bound, reached, accepted}
+use Rattle.word_text.specs.State.{State}
+use Rattle.word_text.specs.Machine.{start, next}
+use Rattle.word_text.specs.Running.{ended, bound, reached, accepted}
 use Rattle.word_text.specs.Verdict.{trouble, ended_or, verdict_from, verdict}
-use Rattle.word_text.specs.Writing.{written, written_query, query_text}
+use Rattle.word_text.specs.Writing.{written, written_query}
+use Rattle.word_text.specs.Texts.{query_text}
 use Rattle.word_text.specs.Shaping.{IsShapedQuery, most_open_from, most_open}
 use Rattle.word_text.proofs.Complete.{line_accepted}
 use Rattle.word_text.proofs.Judged.{Finds, verdict_finds, judged_on}

@@ -11,7 +11,8 @@ use Rattle.line_tokens.specs.declared.kind.Kind.TheVariants as k
 use Rattle.line_tokens.specs.Tokens.{is_blank, is_digit, is_silent, kinds}
 use Rattle.line_tokens.proofs.Fronts.{kinds-blank, kinds-word, kinds-single, kinds-signed}
 use Rattle.word_text.specs.Words.{query_word}
-use Rattle.word_text.specs.Writing.{bracketed, kind_text, text_of}
+use Rattle.word_text.specs.Writing.{bracketed}
+use Rattle.word_text.specs.Texts.{kind_text, text_of}
 
 -- a token with which nothing can be wrong but its depth
 abbrev pub is_fair : Kind → Bool

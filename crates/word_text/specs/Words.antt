@@ -1,5 +1,6 @@
 -- What a word means in a query line.
---   query_word names w   a keyword, a reserved word (no token), or a name: the generator's number or 0
+--   query_word names w        a keyword, a reserved word (no token), or a name: the generator's
+--                             number or 0
 --   query_tokens names line   the tokens of a query line
 use Rattle.std.specs.Prelude.{ℕ, ◌||◌, cond, List, codes}
 use Rattle.std.specs.Str.{bytes_eq}

@@ -1,13 +1,19 @@
--- The text of a query: its tokens, with brackets only where the grammar needs them, and their bytes.
---   Written           what an expression is, as far as brackets around it go, and its tokens
---   enclosed b ks     in round brackets, where b is true
---   as_item, as_base, as_conjugator   inside a product, before a `^`, and behind one
---   written e, written_query q        the tokens of an expression, and of a query
---   kind_text, text_of, query_text    the bytes of a token, of tokens, and of a query
-use Rattle.std.specs.Prelude.{ℕ, zero, suc, ◌-◌, ℤ, pos, Bool, true, false, List, [], ◌∷◌, ◌++◌, map, slice_index_or, Some, None, codes}
-use Rattle.std.specs.List.{flat_map}
+-- The tokens of a query that is written, with brackets only where the grammar needs them.
+--   Written              what an expression is, as far as brackets around it go, and its tokens
+--   enclosed b ks        in round brackets where b is true; bracketed ks where it is
+--   breaks_item s, as_item s ks    a product inside a product stands in brackets
+--   breaks_base s, as_base s ks    before a `^` so does a power and a conjugate
+--   breaks_conjugator s, as_conjugator s ks   behind a `^` so does `1` too, which would be an
+--                        exponent
+--   joined_by_star kss   tokens with a `*` between them
+--   star_before i        what stands before the factor at a place, from 0
+--   item_tokens w        the tokens of a factor
+--   exponent_token e     the token of an exponent
+--   written_level, written e       one level of an expression, and the expression
+--   written_query q      the tokens of a query
+-- e expression · s its shape · w what is written of it · ks tokens
+use Rattle.std.specs.Prelude.{ℕ, zero, suc, ◌-◌, ℤ, pos, Bool, true, false, List, [], ◌∷◌, ◌++◌, map, Some}
 use Rattle.std.specs.Ordering.{int_eq}
-use Rattle.std.specs.Fmt.{signed_decimal}
 use Rattle.nil_word.specs.declared.expr.Expr.{Expr, fold-Expr}
 use Rattle.nil_word.specs.declared.expr.Expr.TheOpen.{Expr-F, One, Gen, Product, Pow, Conj, Comm}
 use Rattle.nil_word.specs.declared.query.Query.{Query}
@@ -21,23 +27,19 @@ pub record Written : Type 0 where
   pub shape : Shape
   pub tokens : List Kind
 
--- in round brackets, or without
 abbrev pub enclosed : Bool → List Kind → List Kind
 enclosed true ks = k.Open ∷ ks ++ k.Close ∷ []
 enclosed false ks = ks
 
--- a product inside a product stands in brackets
 abbrev pub breaks_item : Shape → Bool
 breaks_item shape.Many = true
 breaks_item _ = false
 
--- before a `^` so does a power and a conjugate
 abbrev pub breaks_base : Shape → Bool
 breaks_base shape.Many = true
 breaks_base shape.Raised = true
 breaks_base _ = false
 
--- behind a `^` so does `1` too, which would be an exponent
 abbrev pub breaks_conjugator : Shape → Bool
 breaks_conjugator shape.Atom = false
 breaks_conjugator _ = true
@@ -59,7 +61,6 @@ joined_by_star [] = []
 joined_by_star (ks ∷ []) = ks
 joined_by_star (ks ∷ rest) = ks ++ k.Star ∷ joined_by_star rest
 
--- what stands before the factor at a place, from 0
 abbrev pub star_before : ℕ → List Kind
 star_before zero = []
 star_before (suc i) = k.Star ∷ []
@@ -70,11 +71,13 @@ item_tokens w = as_item w.shape w.tokens
 abbrev pub exponent_token : ℤ → Kind
 exponent_token e = k.Integer (int_eq e (pos 1)) (Some e)
 
--- one level, by its parts
 abbrev pub written_level : Expr-F Written → Written
 written_level One = record { shape = shape.One; tokens = k.Integer true (Some (pos 1)) ∷ [] }
 written_level (Gen g) = record { shape = shape.Atom; tokens = k.Name g ∷ [] }
-written_level (Product ws) = record { shape = shape.Many; tokens = joined_by_star (map item_tokens ws) }
+written_level (Product ws) = record {
+  shape = shape.Many;
+  tokens = joined_by_star (map item_tokens ws);
+}
 written_level (Pow w e) = record {
   shape = shape.Raised;
   tokens = as_base w.shape w.tokens ++ k.Caret ∷ exponent_token e ∷ [];
@@ -94,44 +97,8 @@ written e = fold-Expr Written written_level e
 abbrev pub written_query : Query → List Kind
 written_query (query.Value e) = (written e).tokens
 written_query (query.Same u v) = (written u).tokens ++ k.Equal ∷ (written v).tokens
-written_query (query.Solve u v) = k.Solve ∷ ((written u).tokens ++ k.Bar ∷ (written v).tokens)
-written_query (query.Quotient u v) = k.Quotient ∷ ((written u).tokens ++ k.Bar ∷ (written v).tokens)
+written_query (query.Solve u v) =
+    k.Solve ∷ ((written u).tokens ++ k.Bar ∷ (written v).tokens)
+written_query (query.Quotient u v) =
+    k.Quotient ∷ ((written u).tokens ++ k.Bar ∷ (written v).tokens)
 written_query query.Blank = []
-
--- the text of a token that is always written alike, with the blanks around it
-abbrev pub fixed : Kind → List ℕ
-fixed k.Star = codes "*"
-fixed k.Caret = codes "^"
-fixed k.Open = codes "("
-fixed k.Close = codes ")"
-fixed k.SquareOpen = codes "["
-fixed k.SquareClose = codes "]"
-fixed k.Comma = codes ","
-fixed k.Equal = codes " = "
-fixed k.Bar = codes " | "
-fixed k.Solve = codes "solve "
-fixed k.Quotient = codes "quotient "
-fixed _ = []
-
-abbrev pub kind_text : List (List ℕ) → Kind → List ℕ
-kind_text names (k.Name g) = slice_index_or names (g - 1) []
-kind_text names (k.Integer one (Some n)) = signed_decimal n
-kind_text names (k.Integer one None) = fixed (k.Integer one None)
-kind_text names k.Star = fixed k.Star
-kind_text names k.Caret = fixed k.Caret
-kind_text names k.Open = fixed k.Open
-kind_text names k.Close = fixed k.Close
-kind_text names k.SquareOpen = fixed k.SquareOpen
-kind_text names k.SquareClose = fixed k.SquareClose
-kind_text names k.Comma = fixed k.Comma
-kind_text names k.Equal = fixed k.Equal
-kind_text names k.Bar = fixed k.Bar
-kind_text names k.Solve = fixed k.Solve
-kind_text names k.Quotient = fixed k.Quotient
-kind_text names k.Other = fixed k.Other
-
-abbrev pub text_of : List (List ℕ) → List Kind → List ℕ
-text_of names ks = flat_map (kind_text names) ks
-
-abbrev pub query_text : List (List ℕ) → Query → List ℕ
-query_text names q = text_of names (written_query q)

@@ -2,13 +2,18 @@
 
 ghost use Rattle.std.specs.Prelude.{◌≡◌, [], ◌∷◌, reverse, Some, None, cond, IfOk, MatchOption};
 ghost use Rattle.nil_word.specs.declared.expr.Expr.TheVariants.{Comm};
-ghost use Rattle.word_text.specs.declared.state.Head.{Head};
+ghost use Rattle.word_text.specs.declared.head.Head.{Head};
 ghost use Rattle.word_text.specs.Brackets.{in_round, in_square, in_second};
-ghost use Rattle.word_text.specs.Machine.{moved, next_close, next_comma, next_square_close, next_closing, next_part, after_equal, after_bar};
+ghost use Rattle.word_text.specs.State.{moved};
+ghost use Rattle.word_text.specs.Machine.{next_close, next_comma, next_square_close, next_closing, next_part, after_equal, after_bar};
 
+use super::bracket::Bracket;
+use super::frame::Frame;
+use super::head::Head;
+use super::level::Level;
+use super::now::Now;
 use super::opening::push_frame;
 use super::phrases::{behind_atom, empty_level};
-use super::state::{Bracket, Frame, Head, Level, Now};
 use line_tokens::Kind;
 use nil_word::{Expr, Memory};
 use sqlite_items::{Boxed, Items};

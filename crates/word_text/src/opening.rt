@@ -1,13 +1,19 @@
 //! A token where an atom may stand.
 
 ghost use Rattle.std.specs.Prelude.{◌≡◌, [], ◌∷◌, reverse, option_map, Some, IfOk, OnOk};
-ghost use Rattle.word_text.specs.declared.state.Head.{Head};
-ghost use Rattle.word_text.specs.declared.state.Now.TheVariants.{Atom};
-ghost use Rattle.word_text.specs.Machine.{at, empty, moved, next_atom, next_start};
+ghost use Rattle.word_text.specs.declared.head.Head.{Head};
+ghost use Rattle.word_text.specs.declared.now.Now.TheVariants.{Atom};
+ghost use Rattle.word_text.specs.State.{at, empty, moved};
+ghost use Rattle.word_text.specs.Machine.{next_atom, next_start};
 ghost use Rattle.word_text.specs.Seen.{seen};
 
+use super::bracket::Bracket;
+use super::frame::Frame;
+use super::head::Head;
+use super::level::Level;
+use super::now::Now;
 use super::phrases::{behind_atom, behind_number, empty_level, moved};
-use super::state::{Bracket, Frame, Head, Level, Now, Reader};
+use super::reader::Reader;
 use line_tokens::Kind;
 use nil_word::{Expr, Memory};
 use sqlite_items::Items;
@@ -45,11 +51,11 @@ fn behind_first(
         (reverse frames.old) level kind) }
 {
     match kind {
-        Kind::Name(number) => {
+        Kind::Name { number } => {
             let now = behind_atom(alloc, level, Expr::Gen(number))?;
             Ok(Some(now))
         }
-        Kind::Integer(is_one, value) => behind_number(alloc, level, is_one, value),
+        Kind::Integer { is_one, value } => behind_number(alloc, level, is_one, value),
         Kind::Open => behind_opening(alloc, frames, level, Bracket::Round),
         Kind::SquareOpen => behind_opening(alloc, frames, level, Bracket::Square),
         _ => Ok(None),

@@ -2,10 +2,15 @@
 
 ghost use Rattle.std.specs.Prelude.{◌≡◌, reverse, option_map, IfOk};
 ghost use Rattle.word_text.specs.Products.{product_of};
-ghost use Rattle.word_text.specs.Machine.{behind, behind_integer, empty, moved};
+ghost use Rattle.word_text.specs.Machine.{behind, behind_integer};
+ghost use Rattle.word_text.specs.State.{empty, moved};
 ghost use Rattle.word_text.specs.Seen.{seen};
 
-use super::state::{Frame, Head, Level, Now, Reader};
+use super::frame::Frame;
+use super::head::Head;
+use super::level::Level;
+use super::now::Now;
+use super::reader::Reader;
 use nil_word::{Expr, Memory};
 use sqlite_items::{Boxed, Items};
 use std::alloc::Global;
@@ -51,11 +56,19 @@ pub(super) fn behind_atom(alloc: Global, level: Level, atom: Expr) -> Result<Now
 {
     let Level { done, base } = level;
     match base {
-        None => Ok(Now::After(done, atom, false)),
+        None => Ok(Now::After {
+            done,
+            item: atom,
+            raised: false,
+        }),
         Some(u) => {
             let u = Boxed::new(alloc, u)?;
             let v = Boxed::new(alloc, atom)?;
-            Ok(Now::After(done, Expr::Conj(u, v), true))
+            Ok(Now::After {
+                done,
+                item: Expr::Conj(u, v),
+                raised: true,
+            })
         }
     }
 }
@@ -73,11 +86,19 @@ pub(super) fn behind_number(
     match base {
         Some(u) => {
             let u = Boxed::new(alloc, u)?;
-            Ok(Some(Now::After(done, Expr::Pow(u, value.unwrap_or(0)), true)))
+            Ok(Some(Now::After {
+                done,
+                item: Expr::Pow(u, value.unwrap_or(0)),
+                raised: true,
+            }))
         }
         None => {
             if is_one {
-                Ok(Some(Now::After(done, Expr::One, false)))
+                Ok(Some(Now::After {
+                    done,
+                    item: Expr::One,
+                    raised: false,
+                }))
             } else {
                 Ok(None)
             }

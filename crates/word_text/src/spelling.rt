@@ -56,7 +56,10 @@ fn conjugator_breaks(expr: &Expr) -> bool
 fn exponent_kind(exponent: i128) -> Kind
     ensures { result ≡ exponent_token exponent }
 {
-    Kind::Integer(exponent == 1, Some(exponent))
+    Kind::Integer {
+        is_one: exponent == 1,
+        value: Some(exponent),
+    }
 }
 
 fn push(tokens: &mut Vec<Kind>, kind: Kind) -> Result<(), Memory>
@@ -96,8 +99,8 @@ fn push_expr(tokens: &mut Vec<Kind>, expr: &Expr) -> Result<(), Memory>
     ensures { OnOk result (tokens.new.items ≡ tokens.old.items ++ (written expr.now).tokens) }
 {
     match expr {
-        Expr::One => push(tokens, Kind::Integer(true, Some(1))),
-        Expr::Gen(number) => push(tokens, Kind::Name(*number)),
+        Expr::One => push(tokens, exponent_kind(1)),
+        Expr::Gen(number) => push(tokens, Kind::Name { number: *number }),
         Expr::Product(items) => {
             let items = items.as_slice();
             for i in 0..items.len() {

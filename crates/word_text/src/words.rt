@@ -21,7 +21,9 @@ impl Vocabulary for QueryWords<'_> {
             "solve" => Kind::Solve,
             "quotient" => Kind::Quotient,
             "root" | "image" => Kind::Other,
-            _ => Kind::Name(self.pres.index_of(run).unwrap_or(0)),
+            _ => Kind::Name {
+                number: self.pres.index_of(run).unwrap_or(0),
+            },
         }
     }
 }

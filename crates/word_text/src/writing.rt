@@ -3,7 +3,8 @@
 ghost use Rattle.std.specs.Prelude.{◌≡◌, ◌-◌, ◌++◌, ◌≤◌, [], length, slice_index_or, string_bytes, IfOk, OnOk};
 ghost use Rattle.word_text.specs.Lines.{ReadsAs};
 ghost use Rattle.word_text.specs.Shaping.{IsShapedQuery, most_open};
-ghost use Rattle.word_text.specs.Writing.{fixed, kind_text, text_of, written_query, query_text};
+ghost use Rattle.word_text.specs.Texts.{fixed, kind_text, text_of, query_text};
+ghost use Rattle.word_text.specs.Writing.{written_query};
 
 use super::spelling::tokens_of;
 use super::vectors::push_decimal;
@@ -33,8 +34,11 @@ fn push_token(
     ensures { OnOk result (string_bytes text.new ≡ string_bytes text.old ++ kind_text pres.now.names kind) }
 {
     match kind {
-        Kind::Name(number) => text.push_str(name_of(pres, number)),
-        Kind::Integer(_, Some(value)) => push_decimal(text, alloc, value),
+        Kind::Name { number } => text.push_str(name_of(pres, number)),
+        Kind::Integer {
+            value: Some(value),
+            ..
+        } => push_decimal(text, alloc, value),
         _ => text.push_str(fixed_text(kind)),
     }
 }

@@ -7,10 +7,10 @@ use Rattle.pres_text.proofs.Known.{IsUpTo, found_known}
 use Rattle.pres_text.proofs.relations.add_line.Goals as goal
 
 -- the relation that was found is of generators
-known : (c : goal.After-relation-in-Ok-Some-1) → IsUpTo (length c.args.builder.now.names) (spelled_seen c.in-Ok-Some.relation)
-known c = found_known c.args.builder.now.names c.args.line.now.text.now (spelled_seen c.in-Ok-Some.relation)
-    (ap (option_map spelled_seen) (sym c.in-Ok-Some.field-0-is) ∙ c.in-Ok-Some.ensures
-    ∙ ap (λ ts. option_map spelled_clipped (spelled_by (map (λ (t : Token). t.kind) ts))) (c.as_slice.ensures.value ∙ c.in-Ok.ensures))
+known : (c : goal.After-relation-in-Some-1) → IsUpTo (length c.args.builder.now.names) (spelled_seen c.in-Some.relation)
+known c = found_known c.args.builder.now.names c.args.line.now.text.now (spelled_seen c.in-Some.relation)
+    (ap (option_map spelled_seen) (sym c.in-Some.is) ∙ c.in_ok-spelled.ensures
+    ∙ ap (λ ts. option_map spelled_clipped (spelled_by (map (λ (t : Token). t.kind) ts))) (c.as_slice.ensures.value ∙ c.in_ok-tokens.ensures))
 
 pub add_relation-requires-clause-above : goal.add_relation-requires-clause-above
 add_relation-requires-clause-above c = (known c).above

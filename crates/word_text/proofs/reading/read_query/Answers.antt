@@ -1,10 +1,10 @@
-use Rattle.std.proofs.Common.{◌∙◌, ◌≡◌, sym, ap, subst, true, false, List, length, Ok, IfOk, IfErr}
+use Rattle.std.proofs.Common.{◌∙◌, ◌≡◌, sym, ap, subst, true, false, List, length, Ok, IfOk, IfErr, IfSome}
 use Rattle.line_tokens.specs.declared.token.Token.{Token}
 use Rattle.line_tokens.specs.Tokens.{is_silent}
 use Rattle.word_text.specs.Words.{query_tokens}
 use Rattle.word_text.specs.Faults.{IsRead, IsFirstFault}
 use Rattle.word_text.specs.Lines.{blank}
-use Rattle.word_text.specs.Seen.{IsMemoryOr}
+use Rattle.word_text.specs.Seen.{fault_place}
 use Rattle.word_text.proofs.Deciding.{silent_reads, silent_fails, tokens_read, reads_tokens, fails_tokens}
 use Rattle.word_text.proofs.Bounded.{result_shaped}
 use Rattle.word_text.proofs.reading.read_query.Goals as goal
@@ -25,9 +25,9 @@ returns-then-silent c =
 pub returns : goal.returns
 returns c =
     let says : is_silent c.args.line.now ≡ false = sym c.silent.ensures ∙ c.if-silent.false in
-    let own : c.as_slice.result.now ≡ query_tokens c.args.pres.now.names c.args.line.now = c.as_slice.ensures.value ∙ c.in-Ok.ensures in
+    let own : c.as_slice.result.now ≡ query_tokens c.args.pres.now.names c.args.line.now = c.as_slice.ensures.value ∙ c.in_ok-tokens.ensures in
     let read = subst (λ (ts : List Token). IfOk c.read_tokens.result (λ q. IsRead ts q)) own c.read_tokens.ensures.read in
-    let fault = subst (λ (ts : List Token). IfErr c.read_tokens.result (λ f. IsMemoryOr f (IsFirstFault ts (length c.args.line.now) f))) own c.read_tokens.ensures.fault in
+    let fault = subst (λ (ts : List Token). IfErr c.read_tokens.result (λ f. IfSome (fault_place f) (IsFirstFault ts (length c.args.line.now)))) own c.read_tokens.ensures.fault in
     let reads = reads_tokens c.args.pres.now.names c.args.line.now c.read_tokens.result says read in
     record {
       read = reads;

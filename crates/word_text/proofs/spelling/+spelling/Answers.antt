@@ -21,7 +21,7 @@ push_expr-returns-in_ok-push-in-Pow t c =
     on_ok c.push-in-Pow-2.result
     (λ third. power_tokens c.args.expr.now c.get-base.result.now c.in-Pow.exponent c.base_breaks.result c.args.tokens.now.items _ _ _
     (c.in-Pow.is ∙ ap (λ b. Pow b c.in-Pow.exponent) (sym c.get-base.ensures)) c.base_breaks.ensures c.in_ok-push_enclosed-in-Pow.ensures c.in_ok-push-in-Pow.ensures
-    (let own : c.exponent_kind.result ≡ exponent_token c.in-Pow.exponent = search rules in third ∙ ap (λ x. c.push-in-Pow.new.tokens.items ++ x ∷ []) own))
+    (let own : c.exponent_kind-in-Pow.result ≡ exponent_token c.in-Pow.exponent = search rules in third ∙ ap (λ x. c.push-in-Pow.new.tokens.items ++ x ∷ []) own))
     c.push-in-Pow-2.ensures
 
 pub push_expr-returns-in_ok-push-in-Conj : goal.push_expr-returns-in_ok-push-in-Conj

@@ -1,5 +1,5 @@
 use Rattle.std.proofs.Common.{◌≡◌, take, string_bytes}
-use Rattle.word_text.specs.Writing.{text_of}
+use Rattle.word_text.specs.Texts.{text_of}
 use Rattle.word_text.proofs.writing.text_of.Given as goal
 
 abbrev pub invariant-loop-kind : goal.invariant-loop-kind
