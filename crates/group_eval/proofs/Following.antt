@@ -2,9 +2,8 @@
 --   t table · a b x vectors · rows rows with the entries of a and x · k j generators
 --   e the difference at k, which is put there · y the entry of b at k · at place
 use Rattle.std.proofs.Common.{◌≡◌, ℕ, suc, ◌+◌, ◌-◌, ◌^◌, ◌<◌, ◌≤◌, Bool, true, false, cond, List, length, refl, sym, ap, ◌∙◌, subst, arith, inl, inr}
-use Rattle.std.specs.Prelude.{unsigned_abs, Option, None, Err, ◌||◌, nat_le}
+use Rattle.std.specs.Prelude.{unsigned_abs, Option, None, Err, ◌||◌}
 use Rattle.std.proofs.lemmas.Bool.{cases_eq, lt-leb}
-use Rattle.std.proofs.lemmas.Bool.Decides.{nat_tests}
 use Rattle.std.proofs.Math.ListN.{length-set}
 use lib.IntN.{ℤ, ◌-ℤ◌}
 use Rattle.nil_num.specs.Bound.{Fits, overflows, IsNumber}

@@ -1,15 +1,12 @@
 -- Powers by halves.
---   t table, and s as the code has it · a b h vectors · e exponent · n its magnitude · r outcome
-use Rattle.std.proofs.Common.{◌≡◌, ◌≢◌, ℕ, zero, suc, ◌≤◌, ◌/◌, ◌%◌, ◌==◌, Bool, true, false, cond, List, ℤ, pos, negsuc, refl, sym, subst, ap, ◌∙◌, arith}
-use Rattle.std.specs.Prelude.{Ok, Err, unsigned_abs}
-use lib.Signed.{lt_z}
-use Rattle.std.proofs.lemmas.Bool.{eq-eqb, ne_eqb, false≢true}
-use Rattle.std.proofs.lemmas.Bool.Decides.{nat_tests}
+--   t table · a b h vectors · d e exponents · r outcome
+use Rattle.std.proofs.Common.{◌≡◌, ◌≢◌, ℕ, zero, suc, ◌≤◌, ◌/◌, ◌%◌, ◌==◌, Bool, cond, List, ℤ, ap, ◌∙◌, arith}
+use Rattle.std.specs.Prelude.{Ok}
+use Rattle.std.proofs.lemmas.Bool.{eq-eqb, ne_eqb}
 use Rattle.hall_law.specs.Table.{zeros}
-use Rattle.hall_table.specs.declared.wide_at.WideAt.{WideAt}
 use Rattle.hall_table.specs.Order.{multiplied}
 use Rattle.hall_table.specs.Tabled.{Tabled, last_of}
-use Rattle.group_eval.specs.Order.{Outcome, and_then, base_of, inverted, powered, powered_in, squared_and}
+use Rattle.group_eval.specs.Order.{Outcome, and_then, powered_in, squared_and}
 
 halved : (d : ℕ) (t : Tabled) (a : List ℤ) (e : ℕ) → e ≢ 0 → e ≢ 1
     → powered_in (suc d) t a e ≡ and_then (powered_in d t a (e / 2)) (squared_and t a e)

@@ -114,21 +114,12 @@ joined-product_wide t a b es i e at l is f g =
     ap (joined t a) (outcomes-drop t es i e l is) ∙ ap (λ r. after t a r rs) f
     ∙ ap (λ r. and_then r (λ c. joined t c rs)) g
 
-joined_all-first : (t : Tabled) (es : List Expr) (e : Expr) (r : Outcome) → 0 < length es
-    → e ≡ get_or es 0 e → evaluated t e ≡ r
-    → evaluated t (Product es) ≡ and_then r (λ a. joined t a (outcomes t (drop 1 es)))
-joined_all-first t es e r l is f =
-    evaluated-Product t es ∙ ap (joined_all t) (outcomes-drop t es 0 e l is)
-    ∙ ap (λ s. and_then s (λ a. joined t a (outcomes t (drop 1 es)))) f
-
 pub product_begins : (t : Tabled) (es : List Expr) (e : Expr) (a : List ℤ) → 0 < length es
     → e ≡ get_or es 0 e → evaluated t e ≡ Ok a
     → evaluated t (Product es) ≡ joined t a (outcomes t (drop 1 es))
-product_begins t es e a = joined_all-first t es e (Ok a)
-
-pub product_wide : (t : Tabled) (es : List Expr) (e : Expr) (at : WideAt) → 0 < length es
-    → e ≡ get_or es 0 e → evaluated t e ≡ Err at → evaluated t (Product es) ≡ Err at
-product_wide t es e at = joined_all-first t es e (Err at)
+product_begins t es e a l is f =
+    evaluated-Product t es ∙ ap (joined_all t) (outcomes-drop t es 0 e l is)
+    ∙ ap (λ s. and_then s (λ a. joined t a (outcomes t (drop 1 es)))) f
 
 -- ---- powers
 evaluated-Pow : (t : Tabled) (b : Expr) (z : ℤ)

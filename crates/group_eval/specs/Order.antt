@@ -7,7 +7,7 @@
 --   difference_overflows v z p    the sum of p at the values v overflows, or z less p there
 --   difference t a b x k       b_k - f_k(a, x)
 --   left_overflow t a          the first generator whose row of x overflows at the entries of a
---   solved_from t a b x k d    x with its d entries from k on, each the difference with those before
+--   solved_from t a b x k d    x with its d entries from k on, each what those before leave of b
 --   solved t a b               the x with f(a, x) = b
 --   inverted t a               a^-1
 --   divided t a b              a b^-1

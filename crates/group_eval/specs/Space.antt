@@ -1,6 +1,6 @@
 -- What contracts see of a workspace.
 --   Space              how many generators its vectors have, and its rows
---   IsSpaceOf s c      it serves the table of c: so many generators, and rows as the table needs them
+--   IsSpaceOf s c      it serves the table of c: as many generators, and the rows that it needs
 --   HaveEntries n vs   each of the vectors has n entries
 --   AreOf c vs         each has an entry for each generator of c
 -- s workspace · c a presentation with its table · vs vectors

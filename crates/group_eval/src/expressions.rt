@@ -98,13 +98,7 @@ fn product_of(alloc: Global, ws: &mut Workspace, checked: &Checked, items: &[Exp
 
 /// The vector of a power. One of a generator takes no multiplication.
 #[cycle(vectors)]
-fn power_of(
-    alloc: Global,
-    ws: &mut Workspace,
-    checked: &Checked,
-    base: &Expr,
-    e: i128,
-) -> Evaluated
+fn power_of(alloc: Global, ws: &mut Workspace, checked: &Checked, base: &Expr, e: i128) -> Evaluated
     requires power { IsExprOf checked.now (Expr.Pow base.now e) }
     requires ws { IsSpaceOf ws.old checked.now }
     ensures order { Gives place_of result

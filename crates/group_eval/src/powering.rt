@@ -42,7 +42,14 @@ pub fn power(
     let table = checked.table();
     base_into(table, &mut ws.rows, &ws.zero, a, e, &mut ws.solution)?;
     let e = e.unsigned_abs();
-    raise(table, &mut ws.rows, &ws.solution, e, &mut ws.first, &mut ws.second)?;
+    raise(
+        table,
+        &mut ws.rows,
+        &ws.solution,
+        e,
+        &mut ws.first,
+        &mut ws.second,
+    )?;
     swap(out, &mut ws.first);
     Ok(())
 }
@@ -70,7 +77,8 @@ fn base_into(
     Ok(())
 }
 
-/// Writes a power to `half`. After a refusal `half` holds other values, and so does `square` always.
+/// Writes a power to `half`. After a refusal `half` holds other values, and so does `square` in any
+/// case.
 fn raise(
     table: &Table,
     rows: &mut Rows,

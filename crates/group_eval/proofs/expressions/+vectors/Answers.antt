@@ -1,12 +1,11 @@
 use Rattle.std.proofs.Common.{◌≡◌, ◌+◌, ◌-◌, pos, Ok, Err, length, take, drop, sym, ◌∙◌, ap, subst, rules}
-use Rattle.std.specs.Prelude.{IfSome, MatchOption, Option, Some, None}
+use Rattle.std.specs.Prelude.{IfSome, Option, Some, None}
 use Rattle.std.proofs.lemmas.Int.{to_z-of_z}
 use Rattle.std.proofs.lemmas.List.{length-replicate}
 use Rattle.std.proofs.lemmas.Result.{err_from_is_err_and}
 use mir.Syntax.{w128}
-use mir.Val.{of_z, to_z}
 use Rattle.nil_num.specs.Outcome.{Gives}
-use Rattle.nil_word.specs.declared.expr.Expr.TheVariants.{Product, Pow}
+use Rattle.nil_word.specs.declared.expr.Expr.TheVariants.{Product}
 use Rattle.hall_table.specs.declared.wide_at.WideAt.{WideAt}
 use Rattle.hall_table.specs.Tabled.{last_of}
 use Rattle.hall_law.specs.Table.{zeros, single}
