@@ -1,10 +1,9 @@
 -- What the written order gives by the table's values, from the laws of the table.
 --   c presentation with its table · a b p q x y z vectors · e exponent · Q powers
-use Rattle.std.proofs.Common.{◌≡◌, ℕ, ℤ, List, ◌++◌, length, refl, sym, ◌∙◌, ap, subst}
+use Rattle.std.proofs.Common.{◌≡◌, ℕ, ℤ, List, length, refl, sym, ◌∙◌, ap, subst}
 use Rattle.std.specs.Prelude.{Ok}
 use Rattle.nil_word.specs.Words.{ordered, IsVector}
 use Rattle.nil_word.specs.Congruence.{IsConsistent}
-use Rattle.nil_word.specs.Expressions.{raised}
 use Rattle.nil_word.proofs.Congruences.{trans, back, same}
 use Rattle.nil_pres.specs.Relations.{relations_of}
 use Rattle.hall_law.specs.Table.{Operation, zeros, IsPresentation}
@@ -13,15 +12,14 @@ use Rattle.hall_law.specs.Uniqueness.{Associates, SolvesOnce}
 use Rattle.hall_law.proofs.Acting.{IsWordIn-ordered}
 use Rattle.hall_law.proofs.Premises.{given}
 use Rattle.hall_law.proofs.Vectors.{at_of}
-use Rattle.hall_table.specs.Tabled.{IsTabled, last_of}
+use Rattle.hall_table.specs.Tabled.{IsTabled}
 use Rattle.hall_table.specs.Values.{values}
 use Rattle.hall_table.specs.Multiplies.{Paired, IsChecked}
 use Rattle.hall_table.specs.Order.{multiplied}
 use Rattle.group_eval.specs.Elements.{IsOf}
 use Rattle.group_eval.specs.Order.{and_then, solved, inverted}
 use Rattle.group_eval.specs.Laws.{PoweredIs}
-use Rattle.group_eval.specs.Right.{AreSmall}
-use Rattle.group_eval.specs.ByValues.{IsIn, IsWritten, IsOnly, MultipliedByValues, SolvedByValues, InvertedByValues, DividedByValues, PoweredByValues, CommutedByValues, ConjugatedByValues}
+use Rattle.group_eval.specs.ByValues.{IsIn, IsOnly, MultipliedByValues, SolvedByValues, InvertedByValues, DividedByValues, PoweredByValues, CommutedByValues, ConjugatedByValues}
 use Rattle.group_eval.proofs.Elements.{Law, Shape, product, solution}
 use Rattle.group_eval.proofs.Narrow.{narrow_multiplied, narrow_solved, narrow_powered}
 use Rattle.group_eval.proofs.Outcomes.{and_then_ok}

@@ -1,10 +1,10 @@
 -- What the written order of expressions gives, from what that of elements gives.
 --   c a presentation with its table · t table · e es expressions · a b v vectors · w word
 --   r s outcomes · k generator · z exponent
-use Rattle.std.proofs.Common.{◌≡◌, ℕ, ◌≤◌, nat_le, Bool, true, false, ◌&&◌, ℤ, pos, Option, Some, None, Ok, List, [], ◌∷◌, ◌++◌, length, map, refl, sym, ◌∙◌, ap, subst, append_assoc}
+use Rattle.std.proofs.Common.{◌≡◌, ℕ, ◌≤◌, nat_le, Bool, true, ◌&&◌, ℤ, pos, Option, Some, None, Ok, List, [], ◌∷◌, ◌++◌, length, map, refl, sym, ◌∙◌, ap, subst, append_assoc}
 use Rattle.std.specs.List.{list_all}
 use Rattle.std.proofs.lemmas.List.{append-nil}
-use Rattle.std.proofs.lemmas.Bool.{leb-true}
+use Rattle.std.proofs.lemmas.Bool.{leb-true, and_parts}
 use Rattle.nil_word.specs.declared.letter.Letter.{Letter}
 use Rattle.nil_word.specs.declared.expr.Expr.{Expr, Expr-F, fold-Expr, fold-roll-Expr, ind-Expr, map-Expr, roll-Expr}
 use Rattle.nil_word.specs.declared.expr.Expr.TheOpen as level
@@ -20,14 +20,6 @@ use Rattle.group_eval.specs.Expressions.{Evaluation, joined, joined_all, powered
 use Rattle.group_eval.specs.Laws.{MultipliedIs, PoweredIs, CommutedIs, ConjugatedIs, EvaluatedIs}
 use Rattle.group_eval.proofs.Outcomes.{and_then_ok}
 use Rattle.group_eval.proofs.Singles.{raised-up}
-
-pub left_of : (a b : Bool) → (a && b) ≡ true → a ≡ true
-left_of true b h = refl
-left_of false b h = h
-
-pub right_of : (a b : Bool) → (a && b) ≡ true → b ≡ true
-right_of true b h = h
-right_of false b h = cc
 
 abbrev pub evaluation : Tabled → Expr → Evaluation
 evaluation t e = fold-Expr Evaluation (evaluated_level t) e
@@ -46,26 +38,23 @@ abbrev IsGeneratorOf : Tabled → Expr → Type 0
 IsGeneratorOf t e =
     (k : ℕ) → (evaluation t e).generator ≡ Some k → e ≡ roll-Expr (level.Gen k)
 
+none_named : (t : Tabled) (x : Expr-F Expr)
+    → (evaluated_level t (map-Expr Expr Evaluation (evaluation t) x)).generator ≡ None
+    → IsGeneratorOf t (roll-Expr x)
+none_named t x e k h =
+    let g = fold-roll-Expr Evaluation (evaluated_level t) x in
+    let f : Some k ≡ None = sym h ∙ ap (λ v. v.generator) g ∙ e in absurd (cc)
+
 generator_rolled : (t : Tabled) (x : Expr-F Expr) → IsGeneratorOf t (roll-Expr x)
-generator_rolled t level.One k h =
-    absurd (let g = fold-roll-Expr Evaluation (evaluated_level t) level.One in
-    let f : Some k ≡ None = sym h ∙ ap (λ v. v.generator) g in cc)
+generator_rolled t level.One k h = none_named t level.One refl k h
 generator_rolled t (level.Gen j) k h =
     let g = fold-roll-Expr Evaluation (evaluated_level t) (level.Gen j) in
     let f : Some j ≡ Some k = sym (ap (λ v. v.generator) g) ∙ h in
     let e : j ≡ k = cc in ap (λ i. roll-Expr (level.Gen i)) e
-generator_rolled t (level.Product es) k h =
-    absurd (let g = fold-roll-Expr Evaluation (evaluated_level t) (level.Product es) in
-    let f : Some k ≡ None = sym h ∙ ap (λ v. v.generator) g in cc)
-generator_rolled t (level.Pow b z) k h =
-    absurd (let g = fold-roll-Expr Evaluation (evaluated_level t) (level.Pow b z) in
-    let f : Some k ≡ None = sym h ∙ ap (λ v. v.generator) g in cc)
-generator_rolled t (level.Conj u v) k h =
-    absurd (let g = fold-roll-Expr Evaluation (evaluated_level t) (level.Conj u v) in
-    let f : Some k ≡ None = sym h ∙ ap (λ v. v.generator) g in cc)
-generator_rolled t (level.Comm u v) k h =
-    absurd (let g = fold-roll-Expr Evaluation (evaluated_level t) (level.Comm u v) in
-    let f : Some k ≡ None = sym h ∙ ap (λ v. v.generator) g in cc)
+generator_rolled t (level.Product es) k h = none_named t (level.Product es) refl k h
+generator_rolled t (level.Pow b z) k h = none_named t (level.Pow b z) refl k h
+generator_rolled t (level.Conj u v) k h = none_named t (level.Conj u v) refl k h
+generator_rolled t (level.Comm u v) k h = none_named t (level.Comm u v) refl k h
 
 pub generator_is : (t : Tabled) (e : Expr) → IsGeneratorOf t e
 generator_is t = ind-Expr (IsGeneratorOf t) (λ x y is. generator_rolled t x)
@@ -119,19 +108,15 @@ module _ (c : Paired) (given : Given c) where
       let (a, p, q) = and_then_ok r (λ a. powered c.table a z) v e in
       given.powers a v z w q (h a p)
 
-  conjugate_is : (r s : Outcome) (w y : List Letter) → Is r w → Is s y
-      → Is (and_then r (λ a. and_then s (λ b. conjugated c.table a b))) (conjugate w y)
-  conjugate_is r s w y h k v e =
-      let (a, p, q) = and_then_ok r (λ a. and_then s (λ b. conjugated c.table a b)) v e in
-      let (b, m, n) = and_then_ok s (λ b. conjugated c.table a b) v q in
-      given.conjugates a b v w y n (h a p) (k b m)
-
-  commutator_is : (r s : Outcome) (w y : List Letter) → Is r w → Is s y
-      → Is (and_then r (λ a. and_then s (λ b. commuted c.table a b))) (commutator w y)
-  commutator_is r s w y h k v e =
-      let (a, p, q) = and_then_ok r (λ a. and_then s (λ b. commuted c.table a b)) v e in
-      let (b, m, n) = and_then_ok s (λ b. commuted c.table a b) v q in
-      given.commutators a b v w y n (h a p) (k b m)
+  -- what is made of two outcomes, by the law of what makes it
+  pair_is : (f : List ℤ → List ℤ → Outcome) (g : List Letter → List Letter → List Letter)
+      → ((a b x : List ℤ) (u v : List Letter) → f a b ≡ Ok x → IsOf c a u → IsOf c b v
+      → IsOf c x (g u v))
+      → (r s : Outcome) (w y : List Letter) → Is r w → Is s y
+      → Is (and_then r (λ a. and_then s (λ b. f a b))) (g w y)
+  pair_is f g law r s w y h k v e =
+      let (a, p, q) = and_then_ok r (λ a. and_then s (λ b. f a b)) v e in
+      let (b, m, n) = and_then_ok s (λ b. f a b) v q in law a b v w y n (h a p) (k b m)
 
   abbrev Evaluates : Expr → Type 0
   Evaluates e = is_shaped (length c.pres.names) e ≡ true → is_from c.table.level e ≡ true
@@ -147,7 +132,7 @@ module _ (c : Paired) (given : Given c) where
       sym (fold-roll-Expr Bool (is_from_level c.table.level) (level.Gen k)) ∙ f in
       given.generators k z (leb-true c.table.level k from)
       (leb-true k (length c.pres.names)
-      (right_of (nat_le 1 k) (nat_le k (length c.pres.names)) shaped))
+      (and_parts (nat_le 1 k) (nat_le k (length c.pres.names)) shaped).1)
 
   -- a power by the generator that its base may be
   powered_of_is : (b : Expr) (z : ℤ) (g : Option ℕ) → (evaluation c.table b).generator ≡ g
@@ -187,10 +172,9 @@ module _ (c : Paired) (given : Given c) where
       let n = length c.pres.names in
       let i = c.table.level in
       let hs = list_all (λ b. b) (map (is_shaped n) (known ys)) in
-      let fs = list_all (λ b. b) (map (is_from i) (known ys)) in (
-        y.1 (left_of (is_shaped n y.0) hs h) (left_of (is_from i y.0) fs f),
-        all_items ys (right_of (is_shaped n y.0) hs h) (right_of (is_from i y.0) fs f),
-      )
+      let shaped = and_parts (is_shaped n y.0) hs h in
+      let from = and_parts (is_from i y.0) (list_all (λ b. b) (map (is_from i) (known ys))) f in
+      (y.1 shaped.0 from.0, all_items ys shaped.1 from.1)
 
   shaped_rolled : (x : Expr-F Expr) → is_shaped (length c.pres.names) (roll-Expr x) ≡ true
       → is_shaped_level (length c.pres.names)
@@ -200,6 +184,22 @@ module _ (c : Paired) (given : Given c) where
   from_rolled : (x : Expr-F Expr) → is_from c.table.level (roll-Expr x) ≡ true
       → is_from_level c.table.level (map-Expr Expr Bool (is_from c.table.level) x) ≡ true
   from_rolled x h = sym (fold-roll-Expr Bool (is_from_level c.table.level) x) ∙ h
+
+  pair_of_is : (f : List ℤ → List ℤ → Outcome) (g : List Letter → List Letter → List Letter)
+      → ((a b x : List ℤ) (u v : List Letter) → f a b ≡ Ok x → IsOf c a u → IsOf c b v
+      → IsOf c x (g u v))
+      → (u v : Known)
+      → (is_shaped (length c.pres.names) u.0 && is_shaped (length c.pres.names) v.0) ≡ true
+      → (is_from c.table.level u.0 && is_from c.table.level v.0) ≡ true
+      → Is (and_then (evaluation c.table u.0).outcome
+      (λ a. and_then (evaluation c.table v.0).outcome (λ b. f a b)))
+      (g (unrolled u.0) (unrolled v.0))
+  pair_of_is f g law u v h k =
+      let shaped = and_parts (is_shaped (length c.pres.names) u.0)
+      (is_shaped (length c.pres.names) v.0) h in
+      let from = and_parts (is_from c.table.level u.0) (is_from c.table.level v.0) k in
+      pair_is f g law (evaluation c.table u.0).outcome (evaluation c.table v.0).outcome
+      (unrolled u.0) (unrolled v.0) (u.1 shaped.0 from.0) (v.1 shaped.1 from.1)
 
   rolled : (y : Expr-F Known) → Evaluates (roll-Expr (map-Expr Known Expr (λ e. e.0) y))
   rolled level.One h f =
@@ -217,44 +217,27 @@ module _ (c : Paired) (given : Given c) where
       (fold-roll-Expr Evaluation (evaluated_level c.table) (level.Product es))
       (fold-roll-Expr (List Letter) word_of_level (level.Product es))
       (product_is es (all_items ys
-      (right_of (nat_le 2 (length (map (is_shaped n) es))) (list_all (λ b. b) (map (is_shaped n) es))
-      (shaped_rolled (level.Product es) h))
+      (and_parts (nat_le 2 (length (map (is_shaped n) es))) (list_all (λ b. b) (map (is_shaped n) es)) (shaped_rolled (level.Product es) h)).1
       (from_rolled (level.Product es) f)))
   rolled (level.Pow y z) h f =
       let x = level.Pow y.0 z in
       settled x _ _ (fold-roll-Expr Evaluation (evaluated_level c.table) x)
       (fold-roll-Expr (List Letter) word_of_level x)
       (powered_of_is y.0 z (evaluation c.table y.0).generator refl
-      (left_of (is_shaped (length c.pres.names) y.0) (is_within z) (shaped_rolled x h))
+      (and_parts (is_shaped (length c.pres.names) y.0) (is_within z) (shaped_rolled x h)).0
       (from_rolled x f) y.1)
   rolled (level.Conj u v) h f =
       let x = level.Conj u.0 v.0 in
-      let n = length c.pres.names in
-      let i = c.table.level in
-      let hs = shaped_rolled x h in
-      let fs = from_rolled x f in
       settled x _ _ (fold-roll-Expr Evaluation (evaluated_level c.table) x)
       (fold-roll-Expr (List Letter) word_of_level x)
-      (conjugate_is (evaluation c.table u.0).outcome (evaluation c.table v.0).outcome
-      (unrolled u.0) (unrolled v.0)
-      (u.1 (left_of (is_shaped n u.0) (is_shaped n v.0) hs)
-      (left_of (is_from i u.0) (is_from i v.0) fs))
-      (v.1 (right_of (is_shaped n u.0) (is_shaped n v.0) hs)
-      (right_of (is_from i u.0) (is_from i v.0) fs)))
+      (pair_of_is (conjugated c.table) conjugate given.conjugates u v (shaped_rolled x h)
+      (from_rolled x f))
   rolled (level.Comm u v) h f =
       let x = level.Comm u.0 v.0 in
-      let n = length c.pres.names in
-      let i = c.table.level in
-      let hs = shaped_rolled x h in
-      let fs = from_rolled x f in
       settled x _ _ (fold-roll-Expr Evaluation (evaluated_level c.table) x)
       (fold-roll-Expr (List Letter) word_of_level x)
-      (commutator_is (evaluation c.table u.0).outcome (evaluation c.table v.0).outcome
-      (unrolled u.0) (unrolled v.0)
-      (u.1 (left_of (is_shaped n u.0) (is_shaped n v.0) hs)
-      (left_of (is_from i u.0) (is_from i v.0) fs))
-      (v.1 (right_of (is_shaped n u.0) (is_shaped n v.0) hs)
-      (right_of (is_from i u.0) (is_from i v.0) fs)))
+      (pair_of_is (commuted c.table) commutator given.commutators u v (shaped_rolled x h)
+      (from_rolled x f))
 
   evaluates : (e : Expr) → Evaluates e
   evaluates = ind-Expr Evaluates (λ x y is. subst (λ z. Evaluates (roll-Expr z)) is (rolled y))

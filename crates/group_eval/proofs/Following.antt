@@ -2,11 +2,11 @@
 --   t table · a b x vectors · rows rows with the entries of a and x · k j generators
 --   e the difference at k, which is put there · y the entry of b at k · at place
 use Rattle.std.proofs.Common.{◌≡◌, ℕ, suc, ◌+◌, ◌-◌, ◌^◌, ◌<◌, ◌≤◌, Bool, true, false, cond, List, length, refl, sym, ap, ◌∙◌, subst, arith, inl, inr}
-use Rattle.std.specs.Prelude.{unsigned_abs, Option, None, Err, ◌||◌, nat_le}
-use Rattle.std.proofs.lemmas.Bool.{cases_eq}
-use Rattle.std.proofs.lemmas.Bool.Decides.{nat_tests}
+use Rattle.std.specs.Prelude.{unsigned_abs, Option, None, Err, ◌||◌}
+use Rattle.std.proofs.lemmas.Bool.{cases_eq, lt-leb}
 use Rattle.std.proofs.Math.ListN.{length-set}
 use lib.IntN.{ℤ, ◌-ℤ◌}
+use Rattle.nil_num.specs.Bound.{Fits, overflows, IsNumber}
 use Rattle.nil_word.specs.Exponents.{entry}
 use Rattle.hall_law.specs.Table.{zeros}
 use Rattle.hall_law.specs.Plan.{put}
@@ -19,10 +19,10 @@ use Rattle.hall_table.specs.declared.wide_at.WideAt.TheVariants.{RowX, RowY, Sum
 use Rattle.hall_table.specs.Shape.{y_of}
 use Rattle.hall_table.specs.Tabled.{Tabled, IsTabled, last_of, poly_at}
 use Rattle.hall_table.specs.Width.{width_for, HasRows}
-use Rattle.hall_table.specs.Order.{first_from, generators, named, row_overflows, sum_overflows, x_overflows, sum_at_overflows}
+use Rattle.hall_table.specs.Order.{generators, named, row_overflows, sum_overflows, sum_at_overflows}
 use Rattle.hall_table.proofs.Multiplied.{Hold}
 use Rattle.hall_table.proofs.Putting.{HasRows-with_value, value-same, value-other}
-use Rattle.group_eval.specs.Order.{Outcome, unless, is_wide, difference, solved_from, solved}
+use Rattle.group_eval.specs.Order.{Outcome, unless, is_wide, left_overflow, difference, difference_overflows, solved_from, solved}
 use Rattle.group_eval.proofs.Holding.{difference-rows, sum_overflows-rows}
 
 abbrev pub begun_from : Tabled → List ℤ → List ℤ → Outcome
@@ -64,7 +64,7 @@ unrolled t a b x k h =
 
 -- the rows of all x fit
 abbrev pub FitsLeft : Tabled → List ℤ → Type 0
-FitsLeft t a = first_from t.level (generators t) (x_overflows t a) ≡ None
+FitsLeft t a = left_overflow t a ≡ None
 
 begun : (t : Tabled) (a b : List ℤ) → FitsLeft t a → solved t a b ≡ begun_from t a b
 begun t a b h = ap (λ (f : Option ℕ). named RowX f (begun_from t a b)) h
@@ -73,8 +73,7 @@ begun t a b h = ap (λ (f : Option ℕ). named RowX f (begun_from t a b)) h
 pub difference_named : {t : Tabled} {a b x : List ℤ} {rows : List Reading} {k : ℕ}
     → SolvedSoFar t a b x rows k → IsTabled t → t.level ≤ k → k ≤ last_of t → FitsLeft t a
     → (at : WideAt) (y : ℤ) → at ≡ Sum k → y ≡ entry b k
-    → (sum_overflows (value_at rows) (poly_at t k)
-    || is_wide (y -ℤ value_of (value_at rows) (poly_at t k))) ≡ true
+    → difference_overflows (value_at rows) y (poly_at t k) ≡ true
     → solved t a b ≡ Err at
 difference_named {t} {a} {b} {x} {rows} {k} s h low high f at y g e p =
     let v = value_of (value_at rows) (poly_at t k) in
@@ -94,13 +93,13 @@ pub record IsNext (t : Tabled) (a b x : List ℤ) (k : ℕ) (e : ℤ) : Type 0 w
   pub fits : sum_at_overflows t a x k ≡ false
   pub narrow : is_wide (difference t a b x k) ≡ false
 
-not_wide : (n : ℕ) → n < 2 ^ 127 → nat_le (2 ^ 127) n ≡ false
-not_wide n h = grind (arith, nat_tests)
+not_wide : (n : ℕ) → Fits n → overflows n ≡ false
+not_wide n h = lt-leb (2 ^ 127) n h
 
 pub is_next : {t : Tabled} {a b x : List ℤ} {rows : List Reading} {k : ℕ}
     → SolvedSoFar t a b x rows k → IsTabled t → t.level ≤ k → k ≤ last_of t
     → (y d e : ℤ) → y ≡ entry b k → sum_overflows (value_at rows) (poly_at t k) ≡ false
-    → d ≡ y -ℤ value_of (value_at rows) (poly_at t k) → unsigned_abs d < 2 ^ 127 → e ≡ d
+    → d ≡ y -ℤ value_of (value_at rows) (poly_at t k) → IsNumber d → e ≡ d
     → IsNext t a b x k e
 is_next {t} {a} {b} {x} {rows} {k} s h low high y d e f p g w i =
     let is : d ≡ difference t a b x k =
@@ -111,7 +110,7 @@ is_next {t} {a} {b} {x} {rows} {k} s h low high y d e f p g w i =
       fits = sym (sum_overflows-rows t a x rows k h s.holds low high) ∙ p;
       narrow =
           not_wide (unsigned_abs (difference t a b x k))
-          (subst (λ z. unsigned_abs z < 2 ^ 127) is w);
+          (subst IsNumber is w);
     }
 
 pub row_named : {t : Tabled} {a b x : List ℤ} {rows : List Reading} {k : ℕ} {e : ℤ}

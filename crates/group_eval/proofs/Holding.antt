@@ -1,11 +1,12 @@
 -- Rows that hold the entries of two vectors: the sums and differences that they give.
 --   t table · a b x vectors · rows rows with the entries of a and x · k generator · v variable
-use Rattle.std.proofs.Common.{◌≡◌, ℕ, ◌+◌, ◌-◌, ◌^◌, ◌<◌, ◌≤◌, Bool, true, false, cond, List, length, sym, ap, ◌∙◌, arith, ◌⊎◌, inl, inr}
-use Rattle.std.specs.Prelude.{All, IsTrue, nat_le}
+use Rattle.std.proofs.Common.{◌≡◌, ℕ, ◌+◌, ◌-◌, ◌<◌, ◌≤◌, Bool, true, false, cond, List, length, sym, ap, ◌∙◌, arith, ◌⊎◌, inl, inr}
+use Rattle.std.specs.Prelude.{All, IsTrue}
 use Rattle.std.proofs.lemmas.Bool.Decides.{nat_tests}
 use Rattle.std.proofs.lemmas.List.Elements.{All-weaker}
 use lib.IntN.{ℤ, ◌-ℤ◌}
 use lib.Dec.{ltb}
+use Rattle.nil_num.specs.Bound.{overflows}
 use Rattle.nil_word.specs.Exponents.{entry}
 use Rattle.binom_poly.specs.declared.part.Part.{Part}
 use Rattle.binom_poly.specs.declared.term.Term.{Term}
@@ -74,6 +75,6 @@ pub sum_overflows-rows : (t : Tabled) (a x : List ℤ) (rows : List Reading) (k 
     → Hold t a x rows → t.level ≤ k → k ≤ last_of t
     → sum_overflows (value_at rows) (poly_at t k) ≡ sum_at_overflows t a x k
 sum_overflows-rows t a x rows k h r low high =
-    ap (λ (n : ℕ). nat_le (2 ^ 127) n)
+    ap overflows
     (magnitude-agree (value_at rows) (point_of a x) (poly_at t k)
     (points_agree t a x rows k h r low high))

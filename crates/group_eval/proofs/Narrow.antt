@@ -1,10 +1,13 @@
 -- What the written order of elements gives has an entry for each generator, within 128 bits.
---   t table · a b x v vectors · k generator · e exponent · r s outcomes · low d numbers · p test
+--   t table · a b x v vectors · k generator · e exponent · r s outcomes · low d numbers
+--   p test, or pairing
 use Rattle.std.proofs.Common.{◌≡◌, ℕ, zero, suc, ◌+◌, ◌-◌, ◌/◌, ◌%◌, ◌^◌, ◌≤◌, ◌<◌, Bool, true, false, cond, ℤ, pos, negsuc, Option, Some, None, Ok, Err, List, length, map, refl, sym, ◌∙◌, ap, subst, ◌⊎◌, inl, inr, ltb, eqb, arith}
 use Rattle.std.specs.Prelude.{unsigned_abs}
 use Rattle.std.proofs.lemmas.Bool.{cases_Bool, leb-false, ltb-false}
 use Rattle.std.proofs.lemmas.List.{length-set, length-replicate}
 use Rattle.std.proofs.lemmas.List.Elements.{All-nil, All-cons, All-set, All-replicate}
+use Rattle.nil_num.specs.Bound.{IsNumber}
+use Rattle.nil_num.specs.First.{first_from}
 use Rattle.nil_word.specs.Exponents.{numbers}
 use Rattle.binom_poly.specs.Polynomial.{value_of}
 use Rattle.hall_law.specs.Table.{zeros, single}
@@ -16,14 +19,13 @@ use Rattle.hall_table.specs.Shape.{y_of}
 use Rattle.hall_table.specs.Tabled.{Tabled, last_of, poly_at}
 use Rattle.hall_table.specs.Values.{point_of, values}
 use Rattle.hall_table.specs.Width.{width_for}
-use Rattle.hall_table.specs.Order.{first_from, generators, multiplied, named, row_overflows, sum_at_overflows, x_overflows, y_overflows}
+use Rattle.hall_table.specs.Order.{generators, multiplied, named, row_overflows, sum_at_overflows, y_overflows}
 use Rattle.hall_table.proofs.Putting.{entry_within}
-use Rattle.group_eval.specs.Order.{Outcome, and_then, unless, is_wide, difference, solved_from, solved, inverted, divided, squared_and, powered_in, powered, commuted, conjugated}
+use Rattle.group_eval.specs.declared.pairing.Pairing.{Pairing}
+use Rattle.group_eval.specs.declared.pairing.Pairing.TheVariants.{Solution, Quotient, Conjugate, Commutator}
+use Rattle.group_eval.specs.Order.{Outcome, and_then, unless, is_wide, left_overflow, difference, solved_from, solved, inverted, squared_and, powered_in, powered, paired, both}
 use Rattle.group_eval.specs.Right.{AreSmall}
 use Rattle.group_eval.proofs.Singles.{set-zeros}
-
-abbrev IsSmall : ℤ → Type 0
-IsSmall e = unsigned_abs e < 2 ^ 127
 
 pub record IsNarrow (t : Tabled) (v : List ℤ) : Type 0 where
   pub entries : length v ≡ last_of t
@@ -62,27 +64,27 @@ narrow_named t place None r h = h refl
 pub IsNarrow-zeros : (t : Tabled) → IsNarrow t (zeros (last_of t))
 IsNarrow-zeros t = record {
   entries = length-replicate (last_of t) (pos 0);
-  small = All-replicate IsSmall (last_of t) (pos 0) (omega arith);
+  small = All-replicate IsNumber (last_of t) (pos 0) (omega arith);
 }
 
-IsNarrow-put : (t : Tabled) (x : List ℤ) (k : ℕ) (e : ℤ) → unsigned_abs e < 2 ^ 127
+IsNarrow-put : (t : Tabled) (x : List ℤ) (k : ℕ) (e : ℤ) → IsNumber e
     → IsNarrow t x → IsNarrow t (put x k e)
 IsNarrow-put t x k e h p = record {
   entries = length-set x (k - 1) e ∙ p.entries;
-  small = All-set IsSmall x (k - 1) e h p.small;
+  small = All-set IsNumber x (k - 1) e h p.small;
 }
 
-pub IsNarrow-single : (t : Tabled) (k : ℕ) (e : ℤ) → unsigned_abs e < 2 ^ 127
+pub IsNarrow-single : (t : Tabled) (k : ℕ) (e : ℤ) → IsNumber e
     → IsNarrow t (single (last_of t) k e)
 IsNarrow-single t k e h =
     subst (IsNarrow t) (set-zeros (last_of t) k e)
     (IsNarrow-put t (zeros (last_of t)) k e h (IsNarrow-zeros t))
 
-all_numbers : (g : ℕ → ℤ) (low d : ℕ) → ((k : ℕ) → low ≤ k → k < low + d → IsSmall (g k))
+all_numbers : (g : ℕ → ℤ) (low d : ℕ) → ((k : ℕ) → low ≤ k → k < low + d → IsNumber (g k))
     → AreSmall (map g (numbers low d))
-all_numbers g low zero h = All-nil IsSmall
+all_numbers g low zero h = All-nil IsNumber
 all_numbers g low (suc d) h =
-    All-cons IsSmall (g low) (map g (numbers (suc low) d)) (h low (omega arith) (omega arith))
+    All-cons IsNumber (g low) (map g (numbers (suc low) d)) (h low (omega arith) (omega arith))
     (all_numbers g (suc low) d (λ k l m. h k (omega arith) (omega arith)))
 
 none_overflows : (p : ℕ → Bool) (low d : ℕ) → first_from low d p ≡ None → (k : ℕ) → low ≤ k
@@ -107,7 +109,7 @@ none_overflows p low (suc d) h k l m =
     eq_or_less i j l = grind arith
 
 value_small : (t : Tabled) (a b : List ℤ) (k : ℕ) → sum_at_overflows t a b k ≡ false
-    → IsSmall (value_of (point_of a b) (poly_at t k))
+    → IsNumber (value_of (point_of a b) (poly_at t k))
 value_small t a b k h =
     entry_within (point_of a b) (poly_at t k) (value_of (point_of a b) (poly_at t k))
     (value_of (point_of a b) (poly_at t k)) refl refl (leb-false (2 ^ 127) _ h)
@@ -118,11 +120,11 @@ values_small t a b h =
     all_numbers (λ k. cond (ltb k t.level) (pos 0) (value_of (point_of a b) (poly_at t k))) 1
     (last_of t)
     (λ k l m. (elim (cases_Bool (ltb k t.level)) [
-      | inl c ↦ subst (λ (i : Bool). IsSmall (cond i (pos 0) (value_of (point_of a b) (poly_at t k))))
-          (sym c) (let z : IsSmall (pos 0) = omega arith in z)
+      | inl c ↦ subst (λ (i : Bool). IsNumber (cond i (pos 0) (value_of (point_of a b) (poly_at t k))))
+          (sym c) (let z : IsNumber (pos 0) = omega arith in z)
       | inr c ↦
           let low : t.level ≤ k = ltb-false k t.level c in
-          subst (λ (i : Bool). IsSmall (cond i (pos 0) (value_of (point_of a b) (poly_at t k))))
+          subst (λ (i : Bool). IsNumber (cond i (pos 0) (value_of (point_of a b) (poly_at t k))))
           (sym c)
           (value_small t a b k
           (none_overflows (sum_at_overflows t a b) t.level (generators t) h k low (omega arith)))
@@ -139,7 +141,7 @@ values_narrow t a b h = record {
 -- ---- elements
 pub narrow_multiplied : (t : Tabled) (a b : List ℤ) → Narrow t (multiplied t a b)
 narrow_multiplied t a b =
-    narrow_named t RowX (first_from t.level (generators t) (x_overflows t a)) _
+    narrow_named t RowX (left_overflow t a) _
     (λ _. narrow_named t RowY (first_from t.level (generators t) (y_overflows t b)) _
     (λ _. narrow_named t Sum (first_from t.level (generators t) (sum_at_overflows t a b)) _
     (λ h. narrow_ok t (values t a b) (values_narrow t a b h))))
@@ -157,13 +159,8 @@ narrow_solved_from t a b (suc d) x k h =
 
 pub narrow_solved : (t : Tabled) (a b : List ℤ) → Narrow t (solved t a b)
 narrow_solved t a b =
-    narrow_named t RowX (first_from t.level (generators t) (x_overflows t a)) _
+    narrow_named t RowX (left_overflow t a) _
     (λ _. narrow_solved_from t a b (generators t) (zeros (last_of t)) t.level (IsNarrow-zeros t))
-
-pub narrow_divided : (t : Tabled) (a b : List ℤ) → Narrow t (divided t a b)
-narrow_divided t a b =
-    narrow_then t (inverted t b) (λ c. multiplied t a c) (narrow_solved t b (zeros (last_of t)))
-    (λ c _. narrow_multiplied t a c)
 
 narrow_squared : (t : Tabled) (a : List ℤ) (e : ℕ) (h : List ℤ) → Narrow t (squared_and t a e h)
 narrow_squared t a e h =
@@ -188,14 +185,22 @@ narrow_powered t a (negsuc e) h =
     narrow_then t (inverted t a) (λ b. powered_in (suc e) t b (suc e))
     (narrow_solved t a (zeros (last_of t))) (λ b k. narrow_powered_in (suc e) t b (suc e) k)
 
-pub narrow_conjugated : (t : Tabled) (u v : List ℤ) → Narrow t (conjugated t u v)
-narrow_conjugated t u v =
+pub narrow_paired : (t : Tabled) (p : Pairing) (a b : List ℤ) → Narrow t (paired t p a b)
+narrow_paired t Solution a b = narrow_solved t a b
+narrow_paired t Quotient a b =
+    narrow_then t (inverted t b) (λ c. multiplied t a c) (narrow_solved t b (zeros (last_of t)))
+    (λ c _. narrow_multiplied t a c)
+narrow_paired t Conjugate u v =
     narrow_then t (multiplied t u v) (solved t v) (narrow_multiplied t u v)
     (λ b _. narrow_solved t v b)
-
-pub narrow_commuted : (t : Tabled) (u v : List ℤ) → Narrow t (commuted t u v)
-narrow_commuted t u v =
+narrow_paired t Commutator u v =
     narrow_then t (multiplied t v u) (λ a. and_then (multiplied t u v) (solved t a))
     (narrow_multiplied t v u)
     (λ a _. narrow_then t (multiplied t u v) (solved t a) (narrow_multiplied t u v)
     (λ b _. narrow_solved t a b))
+
+pub narrow_both : (t : Tabled) (p : Pairing) (r s : Outcome) → Narrow t r → Narrow t s
+    → Narrow t (both t p r s)
+narrow_both t p r s h k =
+    narrow_then t r (λ a. and_then s (λ b. paired t p a b)) h
+    (λ a _. narrow_then t s (λ b. paired t p a b) k (λ b _. narrow_paired t p a b))

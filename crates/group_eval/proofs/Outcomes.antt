@@ -2,11 +2,12 @@
 --   r s outcomes · f what follows · t table · a b x vectors
 use Rattle.std.proofs.Common.{◌≡◌, ℕ, Bool, true, false, ℤ, List, ◌⊎◌, inl, inr, refl}
 use Rattle.std.specs.Prelude.{Option, Some, None, Ok, Err, if◌then◌else◌}
+use Rattle.nil_num.specs.First.{first_from}
 use Rattle.hall_table.specs.declared.wide_at.WideAt.{WideAt}
 use Rattle.hall_table.specs.declared.wide_at.WideAt.TheVariants.{RowX, RowY, Sum}
 use Rattle.hall_table.specs.Tabled.{Tabled}
 use Rattle.hall_table.specs.Values.{values}
-use Rattle.hall_table.specs.Order.{first_from, generators, named, multiplied, x_overflows, y_overflows, sum_at_overflows}
+use Rattle.hall_table.specs.Order.{generators, named, multiplied, x_overflows, y_overflows, sum_at_overflows}
 use Rattle.group_eval.specs.Order.{Outcome, and_then, unless}
 
 pub named_ok : (place : ℕ → WideAt) (found : Option ℕ) (r : Outcome) (x : List ℤ)
@@ -14,7 +15,7 @@ pub named_ok : (place : ℕ → WideAt) (found : Option ℕ) (r : Outcome) (x : 
 named_ok place None r x h = h
 named_ok place (Some k) r x h = cc
 
-pub unless_ok : (overflows : Bool) (at : WideAt) (r : Outcome) (x : List ℤ) → unless overflows at r ≡ Ok x
+pub unless_ok : (wide : Bool) (at : WideAt) (r : Outcome) (x : List ℤ) → unless wide at r ≡ Ok x
     → r ≡ Ok x
 unless_ok true at r x h = cc
 unless_ok false at r x h = h

@@ -1,6 +1,6 @@
 -- The reply that the written order of a query gives is right, unless it is wide.
 --   c a presentation with its table · e u v expressions · a b x y z vectors · w words
---   r s o outcomes · q query
+--   r s o outcomes · q query · p pairing
 use Rattle.std.proofs.Common.{◌≡◌, Bool, cond, ℤ, Ok, Err, List, ◌++◌, length, refl, sym, ◌∙◌, subst, inl, inr}
 use Rattle.std.proofs.lemmas.Bool.{cases_Bool, false≢true}
 use Rattle.std.specs.Ordering.{int_eq}
@@ -21,15 +21,18 @@ use Rattle.nil_pres.specs.Relations.{relations_of}
 use Rattle.hall_table.specs.Values.{values}
 use Rattle.hall_table.specs.Multiplies.{Paired}
 use Rattle.group_eval.specs.declared.reply.Reply.TheVariants as reply
+use Rattle.group_eval.specs.declared.pairing.Pairing.{Pairing}
+use Rattle.group_eval.specs.declared.pairing.Pairing.TheVariants.{Solution, Quotient}
 use Rattle.group_eval.specs.Elements.{IsOf, IsSolution}
-use Rattle.group_eval.specs.Order.{Outcome, solved, divided}
+use Rattle.group_eval.specs.Order.{Outcome, and_then, paired, both}
 use Rattle.group_eval.specs.Expressions.{evaluated, IsFrom}
-use Rattle.group_eval.specs.Queries.{vector_or_wide, same_or_not, compared, of_both, answered, IsWide}
+use Rattle.group_eval.specs.Queries.{vector_or_wide, same_or_not, compared, answered, IsWide}
 use Rattle.group_eval.specs.Laws.{SolvedIs, DividedIs, EvaluatedIs}
 use Rattle.group_eval.specs.Right.{AreSmall, IsTheOne, IsRightReply, value, yes, no, solution, quotient, nothing}
-use Rattle.group_eval.proofs.Narrow.{narrow_solved, narrow_divided}
+use Rattle.group_eval.proofs.Narrow.{narrow_paired}
 use Rattle.group_eval.proofs.NarrowEvaluations.{narrow_evaluated}
 use Rattle.group_eval.proofs.Levels.{from_one}
+use Rattle.group_eval.proofs.Outcomes.{and_then_ok}
 
 -- what one table of level 1 gives
 pub record Answers (c : Paired) : Type 0 where
@@ -101,13 +104,21 @@ module _ (c : Paired) (known : Answers c) where
             found y (at_level y hy) (raised (w ++ ordered y) z p) ∙ sym (found x s.vector s.solves);
       }
 
-  value_right : (e : Expr) (r : Outcome) → Shaped e → evaluated c.table e ≡ r
-      → (vector_or_wide r ≡ reply.Wide → ⊥) → IsRightReply rels (query.Value e) (vector_or_wide r)
-  value_right e (Ok a) h f narrow =
+  -- a vector is right where each one that the outcome can be is
+  made_right : (q : Query) (o : Outcome)
+      → ((x : List ℤ) → o ≡ Ok x → IsRightReply rels q (reply.Vector x))
+      → (vector_or_wide o ≡ reply.Wide → ⊥) → IsRightReply rels q (vector_or_wide o)
+  made_right q (Ok x) h narrow = h x refl
+  made_right q (Err at) h narrow = absurd (narrow refl)
+
+  value_right : (e : Expr) → Shaped e → (vector_or_wide (evaluated c.table e) ≡ reply.Wide → ⊥)
+      → IsRightReply rels (query.Value e) (vector_or_wide (evaluated c.table e))
+  value_right e h =
+      made_right (query.Value e) (evaluated c.table e)
+      (λ a f.
       value e a
       (the_one a (unrolled e) (element e a h f)
-      (narrow_evaluated (length c.pres.names) c.table e h a f).small)
-  value_right e (Err at) h f narrow = absurd (narrow refl)
+      (narrow_evaluated (length c.pres.names) c.table e h a f).small))
 
   same_right : (u v : Expr) (a b : List ℤ) → IsOf c a (unrolled u) → IsOf c b (unrolled v)
       → IsRightReply rels (query.Same u v) (same_or_not a b)
@@ -137,47 +148,39 @@ module _ (c : Paired) (known : Answers c) where
   compared_right u v (Ok a) (Err at) h k f g narrow = absurd (narrow refl)
   compared_right u v (Err at) s h k f g narrow = absurd (narrow refl)
 
-  solved_right : (u v : Expr) (a b : List ℤ) (o : Outcome) → IsOf c a (unrolled u)
-      → IsOf c b (unrolled v) → solved c.table a b ≡ o → (vector_or_wide o ≡ reply.Wide → ⊥)
-      → IsRightReply rels (query.Solve u v) (vector_or_wide o)
-  solved_right u v a b (Ok x) h k f narrow =
-      solution u v x
-      (the_solution a b x (unrolled u) (unrolled v) h k
-      (known.solutions a b x (unrolled u) (unrolled v) f h k) (narrow_solved c.table a b x f).small)
-  solved_right u v a b (Err at) h k f narrow = absurd (narrow refl)
-
-  solution_right : (u v : Expr) (r s : Outcome) → Shaped u → Shaped v → evaluated c.table u ≡ r
-      → evaluated c.table v ≡ s → (of_both r s (solved c.table) ≡ reply.Wide → ⊥)
-      → IsRightReply rels (query.Solve u v) (of_both r s (solved c.table))
-  solution_right u v (Ok a) (Ok b) h k f g narrow =
-      solved_right u v a b (solved c.table a b) (element u a h f) (element v b k g) refl narrow
-  solution_right u v (Ok a) (Err at) h k f g narrow = absurd (narrow refl)
-  solution_right u v (Err at) s h k f g narrow = absurd (narrow refl)
-
-  divided_right : (u v : Expr) (a b : List ℤ) (o : Outcome) → IsOf c a (unrolled u)
-      → IsOf c b (unrolled v) → divided c.table a b ≡ o → (vector_or_wide o ≡ reply.Wide → ⊥)
-      → IsRightReply rels (query.Quotient u v) (vector_or_wide o)
-  divided_right u v a b (Ok x) h k f narrow =
-      quotient u v x
-      (the_one x (unrolled u ++ inverse (unrolled v))
-      (known.quotients a b x (unrolled u) (unrolled v) f h k) (narrow_divided c.table a b x f).small)
-  divided_right u v a b (Err at) h k f narrow = absurd (narrow refl)
-
-  quotient_right : (u v : Expr) (r s : Outcome) → Shaped u → Shaped v → evaluated c.table u ≡ r
-      → evaluated c.table v ≡ s → (of_both r s (divided c.table) ≡ reply.Wide → ⊥)
-      → IsRightReply rels (query.Quotient u v) (of_both r s (divided c.table))
-  quotient_right u v (Ok a) (Ok b) h k f g narrow =
-      divided_right u v a b (divided c.table a b) (element u a h f) (element v b k g) refl narrow
-  quotient_right u v (Ok a) (Err at) h k f g narrow = absurd (narrow refl)
-  quotient_right u v (Err at) s h k f g narrow = absurd (narrow refl)
+  -- what a pairing makes of the vectors of two expressions
+  pair_right : (q : Query) (p : Pairing) (u v : Expr) → Shaped u → Shaped v
+      → ((a b x : List ℤ) → IsOf c a (unrolled u) → IsOf c b (unrolled v)
+      → paired c.table p a b ≡ Ok x → IsRightReply rels q (reply.Vector x))
+      → let made = both c.table p (evaluated c.table u) (evaluated c.table v) in
+      (vector_or_wide made ≡ reply.Wide → ⊥) → IsRightReply rels q (vector_or_wide made)
+  pair_right q p u v h k right =
+      let second = λ (a : List ℤ). and_then (evaluated c.table v) (λ b. paired c.table p a b) in
+      made_right q (both c.table p (evaluated c.table u) (evaluated c.table v))
+      (λ x is.
+      let (a, f, then) = and_then_ok (evaluated c.table u) second x is in
+      let (b, g, made) = and_then_ok (evaluated c.table v) (λ b. paired c.table p a b) x then in
+      right a b x (element u a h f) (element v b k g) made)
 
   pub right_reply : (q : Query) → IsShapedQuery (length c.pres.names) q → (IsWide c.table q → ⊥)
       → IsRightReply rels q (answered c.table q)
-  right_reply (query.Value e) h narrow = value_right e (evaluated c.table e) h refl narrow
+  right_reply (query.Value e) h narrow = value_right e h narrow
   right_reply (query.Same u v) h narrow =
       compared_right u v (evaluated c.table u) (evaluated c.table v) h.0 h.1 refl refl narrow
   right_reply (query.Solve u v) h narrow =
-      solution_right u v (evaluated c.table u) (evaluated c.table v) h.0 h.1 refl refl narrow
+      pair_right (query.Solve u v) Solution u v h.0 h.1
+      (λ a b x f g made.
+      solution u v x
+      (the_solution a b x (unrolled u) (unrolled v) f g
+      (known.solutions a b x (unrolled u) (unrolled v) made f g)
+      (narrow_paired c.table Solution a b x made).small))
+      narrow
   right_reply (query.Quotient u v) h narrow =
-      quotient_right u v (evaluated c.table u) (evaluated c.table v) h.0 h.1 refl refl narrow
+      pair_right (query.Quotient u v) Quotient u v h.0 h.1
+      (λ a b x f g made.
+      quotient u v x
+      (the_one x (unrolled u ++ inverse (unrolled v))
+      (known.quotients a b x (unrolled u) (unrolled v) made f g)
+      (narrow_paired c.table Quotient a b x made).small))
+      narrow
   right_reply query.Blank h narrow = nothing

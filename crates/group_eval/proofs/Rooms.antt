@@ -1,11 +1,10 @@
 -- The room of a workspace fits its table.
 --   s what is seen of a workspace · c a presentation with its table · z the vector of zeros
-use Rattle.std.proofs.Common.{◌≡◌, List, length, ℤ, sym, ap, ◌∙◌, subst}
+use Rattle.std.proofs.Common.{◌≡◌, List, length, ℤ, sym, ap, ◌∙◌}
 use Rattle.binom_poly.specs.Reading.{Reading}
 use Rattle.hall_law.specs.Table.{zeros}
 use Rattle.hall_table.specs.Multiplies.{Paired, IsChecked}
-use Rattle.hall_table.specs.Tabled.{Tabled, last_of}
-use Rattle.hall_table.specs.Width.{HasRows}
+use Rattle.hall_table.specs.Tabled.{last_of}
 use Rattle.group_eval.specs.Space.{Space, IsSpaceOf}
 
 pub length-zero : {s : Space} {c : Paired} (z : List ℤ) (rows : List Reading) → IsSpaceOf s c
@@ -17,11 +16,3 @@ pub zero_is : {s : Space} {c : Paired} (z : List ℤ) (rows : List Reading) → 
     → IsChecked c → record { count = length z; rows = rows } ≡ s → z ≡ zeros (length z)
     → z ≡ zeros (last_of c.table)
 zero_is z rows h i e f = f ∙ ap zeros (length-zero z rows h i e)
-
-pub kept_room : {s : Space} {c : Paired} (t : Tabled) (z : List ℤ) (rows new : List Reading)
-    → IsSpaceOf s c → record { count = length z; rows = rows } ≡ s → t ≡ c.table → HasRows t new
-    → let r : Space = record { count = length z; rows = new } in IsSpaceOf r c
-kept_room t z rows new h e f g = record {
-  count = ap (λ (r : Space). r.count) e ∙ h.count;
-  rows = subst (λ (w : Tabled). HasRows w new) f g;
-}

@@ -22,8 +22,8 @@ use Rattle.hall_table.specs.Shape.{y_of}
 use Rattle.hall_table.specs.Tabled.{Tabled, IsTabled, last_of, poly_at}
 use Rattle.hall_table.specs.Values.{point_of, values}
 use Rattle.hall_table.specs.Width.{width_for}
-use Rattle.hall_table.specs.Order.{first_from, generators, row_overflows, sum_at_overflows, x_overflows}
-use Rattle.group_eval.specs.Order.{unless, is_wide, difference, solved_from, solved}
+use Rattle.hall_table.specs.Order.{generators, row_overflows, sum_at_overflows}
+use Rattle.group_eval.specs.Order.{unless, is_wide, left_overflow, difference, solved_from, solved}
 use Rattle.group_eval.proofs.Outcomes.{named_ok, unless_ok}
 
 pub IsClosed-values : (t : Tabled) → IsTabled t → IsClosed (last_of t) t.level (values t)
@@ -137,6 +137,6 @@ module _ (t : Tabled) (tabled : IsTabled t) (shaped : IsShaped (last_of t) t.lev
       let h : SolvesBelow x (last_of t + 1) =
       solved_from_solves (generators t) t.level (zeros (last_of t)) x (omega arith) (omega arith)
       start
-      (named_ok RowX (first_from t.level (generators t) (x_overflows t a))
+      (named_ok RowX (left_overflow t a)
       (solved_from t a b (zeros (last_of t)) t.level (generators t)) x is) in
       (h.vector, whole_solves x h)

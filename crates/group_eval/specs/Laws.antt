@@ -1,6 +1,15 @@
 -- What the written order gives, for each table that multiplies in its presentation.
 --   OfChecked P       P holds of each presentation with a checked table
---   MultipliedIs c    what `multiplied` gives is the vector of the two words joined; and so on
+--   MultipliedIs c    what `multiplied` gives is the vector of the two words joined
+--   SolvedIs c        what `solved` gives is the solution
+--   InvertedIs c      what `inverted` gives is the vector of the inverse
+--   DividedIs c       what `divided` gives is that of the first word and the inverse of the second
+--   PoweredIs c       what `powered` gives is that of the power
+--   CommutedIs c      what `commuted` gives is that of the commutator
+--   ConjugatedIs c    what `conjugated` gives is that of the conjugate
+--   ElementsAre c     all of these
+--   EvaluatedIs c     what an expression gives is the vector of its word
+--   AnsweredIs c      a reply is right, unless it is wide
 -- c a presentation with its table · a b x vectors · u v w words · e exponent or expression
 use Rattle.std.specs.Prelude.{◌≡◌, ℤ, List, ◌++◌, length, Ok}
 use Rattle.nil_word.specs.declared.letter.Letter.{Letter}
@@ -50,6 +59,15 @@ CommutedIs c = (a b x : List ℤ) (u v : List Letter) → commuted c.table a b �
 abbrev pub ConjugatedIs : Paired → Type 0
 ConjugatedIs c = (a b x : List ℤ) (u v : List Letter) → conjugated c.table a b ≡ Ok x
     → IsOf c a u → IsOf c b v → IsOf c x (conjugate u v)
+
+pub record ElementsAre (c : Paired) : Type 0 where
+  pub products : MultipliedIs c
+  pub solutions : SolvedIs c
+  pub inverses : InvertedIs c
+  pub quotients : DividedIs c
+  pub powers : PoweredIs c
+  pub commutators : CommutedIs c
+  pub conjugates : ConjugatedIs c
 
 abbrev pub EvaluatedIs : Paired → Type 0
 EvaluatedIs c = (e : Expr) (x : List ℤ) → IsShaped (length c.pres.names) e

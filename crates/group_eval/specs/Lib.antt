@@ -1,4 +1,5 @@
 pub mod Space
+pub mod Fault
 pub mod Elements
 pub mod Order
 pub mod Expressions

@@ -1,9 +1,10 @@
 -- Which reply to a query is right, in words of the group, whatever computes it.
---   AreSmall v             no entry's magnitude is above 2^127 - 1
+--   AreSmall v             each entry is a number of the calculator
 --   IsTheOne n P v         v is the one vector with P, and its entries are small
 --   IsRightReply rels q r  r answers q
 -- rels a presentation · q query · r reply · u v expressions in IsRightReply, else vectors
-use Rattle.std.specs.Prelude.{◌≡◌, ℕ, ◌<◌, ◌^◌, ℤ, List, ◌++◌, All, unsigned_abs}
+use Rattle.std.specs.Prelude.{◌≡◌, ℕ, ℤ, List, ◌++◌, All}
+use Rattle.nil_num.specs.Bound.{IsNumber}
 use Rattle.nil_word.specs.declared.expr.Expr.{Expr}
 use Rattle.nil_word.specs.declared.query.Query.{Query}
 use Rattle.nil_word.specs.declared.query.Query.TheVariants as query
@@ -14,7 +15,7 @@ use Rattle.group_eval.specs.declared.reply.Reply.{Reply}
 use Rattle.group_eval.specs.declared.reply.Reply.TheVariants as reply
 
 abbrev pub AreSmall : List ℤ → Type 0
-AreSmall v = All (λ e. unsigned_abs e < 2 ^ 127) v
+AreSmall v = All IsNumber v
 
 pub record IsTheOne (n : ℕ) (P : List ℤ → Type 0) (v : List ℤ) : Type 0 where
   pub vector : IsVector n 1 v

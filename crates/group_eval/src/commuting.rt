@@ -1,12 +1,13 @@
 //! Commutators and conjugates.
 
-ghost use Rattle.std.specs.Prelude.{◌≡◌, List, length, OnOk, OnErr};
+ghost use Rattle.std.specs.Prelude.{◌≡◌, List, [], ◌∷◌, OnOk, OnErr};
+ghost use Rattle.nil_num.specs.Outcome.{Writes};
 ghost use Rattle.nil_word.specs.declared.letter.Letter.{Letter};
 ghost use Rattle.nil_word.specs.Expressions.{commutator, conjugate};
 ghost use Rattle.hall_table.specs.Multiplies.{IsChecked};
 ghost use Rattle.group_eval.specs.Elements.{IsOf};
-ghost use Rattle.group_eval.specs.Order.{commuted, conjugated, Writes};
-ghost use Rattle.group_eval.specs.Space.{IsSpaceOf};
+ghost use Rattle.group_eval.specs.Order.{commuted, conjugated};
+ghost use Rattle.group_eval.specs.Space.{AreOf, IsSpaceOf};
 
 use super::meaning::elements_of;
 use super::multiplying::multiply_into;
@@ -24,9 +25,7 @@ pub fn commutator(
     v: &Vector,
     out: &mut Vector,
 ) -> Result<(), WideAt>
-    requires left { length u.now ≡ length checked.now.pres.names }
-    requires right { length v.now ≡ length checked.now.pres.names }
-    requires out { length out.old ≡ length checked.now.pres.names }
+    requires vectors { AreOf checked.now (u.now ∷ v.now ∷ out.old ∷ []) }
     requires ws { IsSpaceOf ws.old checked.now }
     ensures element { OnOk result ((w z : List Letter) → IsOf checked.now u.now w
         → IsOf checked.now v.now z → IsOf checked.now out.new (commutator w z)) }
@@ -51,9 +50,7 @@ pub fn conjugate(
     v: &Vector,
     out: &mut Vector,
 ) -> Result<(), WideAt>
-    requires left { length u.now ≡ length checked.now.pres.names }
-    requires right { length v.now ≡ length checked.now.pres.names }
-    requires out { length out.old ≡ length checked.now.pres.names }
+    requires vectors { AreOf checked.now (u.now ∷ v.now ∷ out.old ∷ []) }
     requires ws { IsSpaceOf ws.old checked.now }
     ensures element { OnOk result ((w z : List Letter) → IsOf checked.now u.now w
         → IsOf checked.now v.now z → IsOf checked.now out.new (conjugate w z)) }

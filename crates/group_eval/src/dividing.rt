@@ -1,12 +1,13 @@
 //! Inverses and quotients.
 
-ghost use Rattle.std.specs.Prelude.{◌≡◌, List, length, ◌++◌, OnOk, OnErr};
+ghost use Rattle.std.specs.Prelude.{◌≡◌, List, [], ◌∷◌, ◌++◌, OnOk, OnErr};
+ghost use Rattle.nil_num.specs.Outcome.{Writes};
 ghost use Rattle.nil_word.specs.declared.letter.Letter.{Letter};
 ghost use Rattle.nil_word.specs.Words.{inverse};
 ghost use Rattle.hall_table.specs.Multiplies.{IsChecked};
 ghost use Rattle.group_eval.specs.Elements.{IsOf};
-ghost use Rattle.group_eval.specs.Order.{inverted, divided, Writes};
-ghost use Rattle.group_eval.specs.Space.{IsSpaceOf};
+ghost use Rattle.group_eval.specs.Order.{inverted, divided};
+ghost use Rattle.group_eval.specs.Space.{AreOf, IsSpaceOf};
 
 use super::meaning::elements_of;
 use super::multiplying::multiply_into;
@@ -23,8 +24,7 @@ pub fn inverse(
     a: &Vector,
     out: &mut Vector,
 ) -> Result<(), WideAt>
-    requires left { length a.now ≡ length checked.now.pres.names }
-    requires out { length out.old ≡ length checked.now.pres.names }
+    requires vectors { AreOf checked.now (a.now ∷ out.old ∷ []) }
     requires ws { IsSpaceOf ws.old checked.now }
     ensures element { OnOk result ((u : List Letter) → IsOf checked.now a.now u
         → IsOf checked.now out.new (inverse u)) }
@@ -46,9 +46,7 @@ pub fn quotient(
     b: &Vector,
     out: &mut Vector,
 ) -> Result<(), WideAt>
-    requires left { length a.now ≡ length checked.now.pres.names }
-    requires right { length b.now ≡ length checked.now.pres.names }
-    requires out { length out.old ≡ length checked.now.pres.names }
+    requires vectors { AreOf checked.now (a.now ∷ b.now ∷ out.old ∷ []) }
     requires ws { IsSpaceOf ws.old checked.now }
     ensures element { OnOk result ((u v : List Letter) → IsOf checked.now a.now u
         → IsOf checked.now b.now v → IsOf checked.now out.new (u ++ inverse v)) }

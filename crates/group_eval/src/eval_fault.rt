@@ -1,6 +1,7 @@
 //! Why an expression isn't evaluated.
 
 use hall_table::WideAt;
+use nil_word::Vector;
 use std::alloc::AllocError;
 use thiserror::Error;
 
@@ -13,6 +14,9 @@ pub enum EvalFault {
     #[error("want of memory")]
     Memory,
 }
+
+/// What an evaluation gives.
+pub(super) type Evaluated = Result<Vector, EvalFault>;
 
 impl From<WideAt> for EvalFault {
     ghost use Rattle.std.specs.Prelude.{◌≡◌};

@@ -11,8 +11,8 @@ use hall_law::laws::{elements as vectors, uniqueness};
 use hall_table::laws::shaped;
 use hall_table::presentations::relations;
 
-/// By a table that multiplies in its presentation, where no value overflows 128 bits, the written order
-/// of an element gives the vector of that element.
+/// By a table that multiplies in its presentation, where no value overflows 128 bits, the written
+/// order of an element gives the vector of that element.
 pub fn elements()
     ensures products { OfChecked MultipliedIs }
     ensures solutions { OfChecked SolvedIs }
@@ -28,9 +28,9 @@ pub fn elements()
     uniqueness();
 }
 
-/// In terms of the table's values: each vector that the written order gives has entries within 128
-/// bits, and it is the product, the power, or the only vector of its level that solves, inverts,
-/// divides, commutes or conjugates.
+/// In terms of the table's values: what the written order gives is a vector of the level whose
+/// entries are numbers, and it is the product, the power, or the only solution, inverse, quotient,
+/// commutator or conjugate.
 pub fn by_values()
     ensures products { OfChecked MultipliedByValues }
     ensures solutions { OfChecked SolvedByValues }
@@ -56,7 +56,7 @@ pub fn expressions()
     vectors();
 }
 
-/// And that of a query, by a table of level 1, gives the right reply.
+/// The written order of a query, by a table of level 1, gives the right reply.
 pub fn replies()
     ensures { OfChecked AnsweredIs }
 {

@@ -1,14 +1,14 @@
 //! Products.
 
-ghost use Rattle.std.specs.Prelude.{◌≡◌, List, length, ◌++◌, OnOk, OnErr};
+ghost use Rattle.std.specs.Prelude.{◌≡◌, List, length, [], ◌∷◌, ◌++◌, OnOk, OnErr};
+ghost use Rattle.nil_num.specs.Outcome.{Writes};
 ghost use Rattle.nil_word.specs.declared.letter.Letter.{Letter};
 ghost use Rattle.hall_table.specs.Order.{multiplied};
 ghost use Rattle.hall_table.specs.Multiplies.{IsChecked};
 ghost use Rattle.hall_table.specs.Tabled.{last_of};
 ghost use Rattle.hall_table.specs.Width.{HasRows};
 ghost use Rattle.group_eval.specs.Elements.{IsOf};
-ghost use Rattle.group_eval.specs.Order.{Writes};
-ghost use Rattle.group_eval.specs.Space.{IsSpaceOf};
+ghost use Rattle.group_eval.specs.Space.{AreOf, HaveEntries, IsSpaceOf};
 
 use super::meaning::elements_of;
 use super::workspace::Workspace;
@@ -24,9 +24,7 @@ pub fn multiply(
     b: &Vector,
     out: &mut Vector,
 ) -> Result<(), WideAt>
-    requires left { length a.now ≡ length checked.now.pres.names }
-    requires right { length b.now ≡ length checked.now.pres.names }
-    requires out { length out.old ≡ length checked.now.pres.names }
+    requires vectors { AreOf checked.now (a.now ∷ b.now ∷ out.old ∷ []) }
     requires ws { IsSpaceOf ws.old checked.now }
     ensures element { OnOk result ((u v : List Letter) → IsOf checked.now a.now u
         → IsOf checked.now b.now v → IsOf checked.now out.new (u ++ v)) }
@@ -46,9 +44,7 @@ pub(super) fn multiply_into(
     b: &Vector,
     out: &mut Vector,
 ) -> Result<(), WideAt>
-    requires left { length a.now ≡ last_of table.now }
-    requires right { length b.now ≡ last_of table.now }
-    requires out { length out.old ≡ last_of table.now }
+    requires vectors { HaveEntries (last_of table.now) (a.now ∷ b.now ∷ out.old ∷ []) }
     requires rows { HasRows table.now rows.old }
     ensures order { Writes result out.new (multiplied table.now a.now b.now) }
     ensures length { length out.new ≡ last_of table.now }

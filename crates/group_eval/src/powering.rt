@@ -1,15 +1,17 @@
 //! Powers by halves.
 
-ghost use Rattle.std.specs.Prelude.{◌≡◌, ◌<◌, ◌≤◌, ◌≤ℤ◌, negsuc, ℕ, List, length, OnOk, OnErr};
+ghost use Rattle.std.specs.Prelude.{◌≡◌, ◌≤◌, ℕ, List, [], ◌∷◌, length, OnOk, OnErr};
+ghost use Rattle.nil_num.specs.Outcome.{Writes};
 ghost use Rattle.nil_word.specs.declared.letter.Letter.{Letter};
 ghost use Rattle.nil_num.specs.Bound.{IsNumber};
 ghost use Rattle.nil_word.specs.Expressions.{raised};
+ghost use Rattle.hall_law.specs.Table.{zeros};
 ghost use Rattle.hall_table.specs.Multiplies.{IsChecked};
-ghost use Rattle.hall_table.specs.Tabled.{IsTabled, last_of};
+ghost use Rattle.hall_table.specs.Tabled.{last_of};
 ghost use Rattle.hall_table.specs.Width.{HasRows};
 ghost use Rattle.group_eval.specs.Elements.{IsOf};
-ghost use Rattle.group_eval.specs.Order.{powered, powered_in, Writes};
-ghost use Rattle.group_eval.specs.Space.{IsSpaceOf};
+ghost use Rattle.group_eval.specs.Order.{base_of, powered, powered_in};
+ghost use Rattle.group_eval.specs.Space.{AreOf, HaveEntries, IsSpaceOf};
 
 use super::copying::{clear, copy_into};
 use super::meaning::elements_of;
@@ -29,9 +31,7 @@ pub fn power(
     e: i128,
     out: &mut Vector,
 ) -> Result<(), WideAt>
-    requires left { length a.now ≡ length checked.now.pres.names }
-    requires exponent { IsNumber e }
-    requires out { length out.old ≡ length checked.now.pres.names }
+ghost use Rattle.nil_num.specs.Bound.{IsNumber};
     requires ws { IsSpaceOf ws.old checked.now }
     ensures element { OnOk result ((u : List Letter) → IsOf checked.now a.now u
         → IsOf checked.now out.new (raised u e)) }
@@ -41,32 +41,45 @@ pub fn power(
 {
     elements_of(checked);
     let table = checked.table();
-    let magnitude = e.unsigned_abs();
-    if e < 0 {
-        solve_into(table, &mut ws.rows, a, &ws.zero, &mut ws.solution)?;
-        raise(
-            table,
-            &mut ws.rows,
-            &ws.solution,
-            magnitude,
-            &mut ws.first,
-            &mut ws.second,
-        )?;
-    } else {
-        raise(
-            table,
-            &mut ws.rows,
-            a,
-            magnitude,
-            &mut ws.first,
-            &mut ws.second,
-        )?;
-    }
+    base_into(table, &mut ws.rows, &ws.zero, a, e, &mut ws.solution)?;
+    let e = e.unsigned_abs();
+    raise(
+        table,
+        &mut ws.rows,
+        &ws.solution,
+        e,
+        &mut ws.first,
+        &mut ws.second,
+    )?;
     swap(out, &mut ws.first);
     Ok(())
 }
 
-/// Writes a power to `half`. After a refusal `half` holds other values, and so does `square` always.
+/// Writes what is multiplied in a power: the vector, or its inverse for a negative exponent.
+fn base_into(
+    table: &Table,
+    rows: &mut Rows,
+    zero: &Vector,
+    a: &Vector,
+    e: i128,
+    base: &mut Vector,
+) -> Result<(), WideAt>
+    requires vectors { HaveEntries (last_of table.now) (a.now ∷ base.old ∷ []) }
+    requires zero { zero.now ≡ zeros (last_of table.now) }
+    requires rows { HasRows table.now rows.old }
+    ensures order { Writes result base.new (base_of table.now a.now e) }
+    ensures length { length base.new ≡ last_of table.now }
+    ensures rows { HasRows table.now rows.new }
+{
+    if e < 0 {
+        return solve_into(table, rows, a, zero, base);
+    }
+    copy_into(table.last(), a, base);
+    Ok(())
+}
+
+/// Writes a power to `half`. After a refusal `half` holds other values, and so does `square` in any
+/// case.
 fn raise(
     table: &Table,
     rows: &mut Rows,
@@ -75,13 +88,10 @@ fn raise(
     half: &mut Vector,
     square: &mut Vector,
 ) -> Result<(), WideAt>
-    requires base { length base.now ≡ last_of table.now }
-    requires half { length half.old ≡ last_of table.now }
-    requires square { length square.old ≡ last_of table.now }
+    requires vectors { HaveEntries (last_of table.now) (base.now ∷ half.old ∷ square.old ∷ []) }
     requires rows { HasRows table.now rows.old }
     ensures order { (d : ℕ) → e ≤ d → Writes result half.new (powered_in d table.now base.now e) }
-    ensures half { length half.new ≡ last_of table.now }
-    ensures square { length square.new ≡ last_of table.now }
+    ensures vectors { HaveEntries (last_of table.now) (half.new ∷ square.new ∷ []) }
     ensures rows { HasRows table.now rows.new }
 {
     if e == 0 {
@@ -95,9 +105,8 @@ fn raise(
     raise(table, rows, base, e / 2, half, square)?;
     multiply_into(table, rows, half, half, square)?;
     if e % 2 == 1 {
-        multiply_into(table, rows, square, base, half)?;
-    } else {
-        swap(half, square);
+        return multiply_into(table, rows, square, base, half);
     }
+    swap(half, square);
     Ok(())
 }

@@ -2,7 +2,8 @@
 
 use nil_word::Vector;
 
-/// What a query is answered. `Wide`: a value on the way overflowed 128 bits. `Nothing`: it asked nothing.
+/// What a query is answered. `Wide`: a value on the way overflowed 128 bits. `Nothing`: it asked
+/// nothing.
 #[derive(Drop)]
 pub enum Reply {
     Vector(Vector),

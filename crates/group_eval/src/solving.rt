@@ -1,18 +1,20 @@
 //! Solutions.
 
-ghost use Rattle.std.specs.Prelude.{◌≡◌, ◌<◌, ◌≤◌, ◌^◌, ℕ, ◌||◌, true, false, ◌-ℤ◌, pos, unsigned_abs, List, length, OnOk, OnErr, IfOk, MatchResult, Some, None, option_map};
+ghost use Rattle.std.specs.Prelude.{◌≡◌, ◌<◌, ◌≤◌, ℕ, true, false, ◌-ℤ◌, pos, List, [], ◌∷◌, length, OnOk, OnErr, IfOk, IfErr, MatchResult, Some, None, option_map};
+ghost use Rattle.nil_num.specs.Bound.{IsNumber};
+ghost use Rattle.nil_num.specs.Outcome.{Writes};
 ghost use Rattle.nil_word.specs.declared.letter.Letter.{Letter};
 ghost use Rattle.nil_word.specs.Exponents.{entry};
 ghost use Rattle.binom_poly.specs.Polynomial.{value_of};
 ghost use Rattle.binom_poly.specs.Readings.{value_at};
 ghost use Rattle.hall_table.specs.Multiplies.{IsChecked};
-ghost use Rattle.hall_table.specs.Order.{first_from, generators, sum_overflows, x_overflows};
+ghost use Rattle.hall_table.specs.Order.{sum_overflows};
 ghost use Rattle.hall_table.specs.Shape.{y_of};
 ghost use Rattle.hall_table.specs.Tabled.{IsTabled, last_of, poly_at};
 ghost use Rattle.hall_table.specs.Width.{HasRows};
 ghost use Rattle.group_eval.specs.Elements.{IsOf, IsSolution};
-ghost use Rattle.group_eval.specs.Order.{is_wide, solved, Writes};
-ghost use Rattle.group_eval.specs.Space.{IsSpaceOf};
+ghost use Rattle.group_eval.specs.Order.{difference_overflows, left_overflow, solved};
+ghost use Rattle.group_eval.specs.Space.{AreOf, HaveEntries, IsSpaceOf};
 
 use super::copying::clear;
 use super::meaning::elements_of;
@@ -30,9 +32,7 @@ pub fn solve(
     b: &Vector,
     out: &mut Vector,
 ) -> Result<(), WideAt>
-    requires left { length a.now ≡ length checked.now.pres.names }
-    requires right { length b.now ≡ length checked.now.pres.names }
-    requires out { length out.old ≡ length checked.now.pres.names }
+    requires vectors { AreOf checked.now (a.now ∷ b.now ∷ out.old ∷ []) }
     requires ws { IsSpaceOf ws.old checked.now }
     ensures element { OnOk result ((u v : List Letter) → IsOf checked.now a.now u
         → IsOf checked.now b.now v → IsSolution checked.now out.new u v) }
@@ -54,9 +54,7 @@ pub(super) fn solve_into(
     b: &Vector,
     x: &mut Vector,
 ) -> Result<(), WideAt>
-    requires left { length a.now ≡ last_of table.now }
-    requires right { length b.now ≡ last_of table.now }
-    requires out { length x.old ≡ last_of table.now }
+    requires vectors { HaveEntries (last_of table.now) (a.now ∷ b.now ∷ x.old ∷ []) }
     requires rows { HasRows table.now rows.old }
     ensures order { Writes result x.new (solved table.now a.now b.now) }
     ensures length { length x.new ≡ last_of table.now }
@@ -79,10 +77,8 @@ pub(super) fn solve_into(
 fn put_x(table: &Table, rows: &mut Rows, a: &Vector) -> Result<(), WideAt>
     requires length { length a.now ≡ last_of table.now }
     requires rows { HasRows table.now rows.old }
-    ensures first { MatchResult result
-        (λ _. first_from table.now.level (generators table.now) (x_overflows table.now a.now) ≡ None)
-        (λ at. option_map WideAt.RowX
-        (first_from table.now.level (generators table.now) (x_overflows table.now a.now)) ≡ Some at) }
+    ensures first { MatchResult result (λ _. left_overflow table.now a.now ≡ None)
+        (λ at. option_map WideAt.RowX (left_overflow table.now a.now) ≡ Some at) }
     ensures put { OnOk result ((k : ℕ) → table.now.level ≤ k → k ≤ last_of table.now
         → value_at rows.new k ≡ entry a.now k) }
     ensures rows { HasRows table.now rows.new }
@@ -114,11 +110,10 @@ fn difference_at(table: &Table, rows: &Rows, k: u32, b: i128) -> Result<i128, Wi
     requires rows { HasRows table.now rows.now }
     ensures value { IfOk result
         (λ e. e ≡ b -ℤ value_of (value_at rows.now) (poly_at table.now k)) }
-    ensures within { IfOk result (λ e. unsigned_abs e < 2 ^ 127) }
-    ensures wide { MatchResult result
-        (λ _. sum_overflows (value_at rows.now) (poly_at table.now k) ≡ false)
-        (λ at. (at ≡ WideAt.Sum k) × ((sum_overflows (value_at rows.now) (poly_at table.now k)
-        || is_wide (b -ℤ value_of (value_at rows.now) (poly_at table.now k))) ≡ true)) }
+    ensures within { IfOk result IsNumber }
+    ensures fits { OnOk result (sum_overflows (value_at rows.now) (poly_at table.now k) ≡ false) }
+    ensures wide { IfErr result (λ at. (at ≡ WideAt.Sum k)
+        × (difference_overflows (value_at rows.now) b (poly_at table.now k) ≡ true)) }
 {
     let value = table.entry(rows, k)?;
     let Some(difference) = b.checked_sub(value) else {

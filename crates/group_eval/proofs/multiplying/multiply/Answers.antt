@@ -2,7 +2,7 @@ use Rattle.std.proofs.Common.{subst}
 use Rattle.std.proofs.lemmas.Result.{MatchResult-weaker}
 use Rattle.hall_table.specs.Order.{multiplied}
 use Rattle.hall_table.specs.Tabled.{Tabled}
-use Rattle.group_eval.specs.Order.{Writes}
+use Rattle.nil_num.specs.Outcome.{Writes}
 use Rattle.group_eval.proofs.multiplying.multiply.Goals as goal
 
 pub returns-clause-order : goal.returns-clause-order

@@ -5,4 +5,4 @@ pub returns-clause-length : goal.returns-clause-length
 returns-clause-length c =
     length-written c.multiply_into.result c.args.table.now c.args.a.now c.args.b.now c.args.out.now
     c.multiply_into.new.out c.multiply_into.ensures.values c.multiply_into.ensures.err
-    c.requires.out
+    c.requires.vectors.1.1.0

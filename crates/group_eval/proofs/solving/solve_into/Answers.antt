@@ -33,7 +33,7 @@ returns-in_err-set_y-clause-order c =
     c.in_ok-difference.difference _
     (to_z-of_z w128 c.at.result g
     ∙ entry_read c.args.b.now c.loop-k.k c.at.result c.at.ensures.entry)
-    c.in_ok-difference.ensures.wide c.in_ok-difference.ensures.value
+    c.in_ok-difference.ensures.fits c.in_ok-difference.ensures.value
     c.in_ok-difference.ensures.within (to_z-of_z w128 c.in_ok-difference.difference d))
     (omega arith) c.in_ok-put_x.ensures.first c.in_err-set_y.field-0.0
     c.in_err-set_y.ensures.wide.0 c.in_err-set_y.ensures.wide.1)
@@ -47,7 +47,7 @@ loop-k-preserved c =
     c.in_ok-difference.difference _
     (to_z-of_z w128 c.at.result g
     ∙ entry_read c.args.b.now c.loop-k.k c.at.result c.at.ensures.entry)
-    c.in_ok-difference.ensures.wide c.in_ok-difference.ensures.value
+    c.in_ok-difference.ensures.fits c.in_ok-difference.ensures.value
     c.in_ok-difference.ensures.within (to_z-of_z w128 c.in_ok-difference.difference d))
     c.last-last.ensures.form (omega arith) (omega arith)
     (y_positive c.args.table.now c.loop-k.rows c.loop-k.k c.loop-k.invariant.placed (omega arith)
