@@ -3,7 +3,6 @@
 ghost use Rattle.std.specs.Prelude.{◌≡◌, ◌≤◌, ℕ, List, [], ◌∷◌, length, OnOk, OnErr};
 ghost use Rattle.nil_num.specs.Outcome.{Writes};
 ghost use Rattle.nil_word.specs.declared.letter.Letter.{Letter};
-ghost use Rattle.nil_num.specs.Bound.{IsNumber};
 ghost use Rattle.nil_word.specs.Expressions.{raised};
 ghost use Rattle.hall_law.specs.Table.{zeros};
 ghost use Rattle.hall_table.specs.Multiplies.{IsChecked};
@@ -31,7 +30,7 @@ pub fn power(
     e: i128,
     out: &mut Vector,
 ) -> Result<(), WideAt>
-ghost use Rattle.nil_num.specs.Bound.{IsNumber};
+    requires vectors { AreOf checked.now (a.now ∷ out.old ∷ []) }
     requires ws { IsSpaceOf ws.old checked.now }
     ensures element { OnOk result ((u : List Letter) → IsOf checked.now a.now u
         → IsOf checked.now out.new (raised u e)) }
