@@ -1,8 +1,8 @@
 -- Right sides of relations, as lists of syllables.
 --   is_lowest e                       e is - 2^63, whose magnitude is above 2^63 - 1
 --   is_zero e                         e is 0
---   syllable_fault place last right   the first fault of syllables that stand from a place on, behind
---                                     a generator
+--   syllable_fault place last right   the first fault of syllables that stand from a place on,
+--                                     behind a generator
 --   AreUpTo high right                no syllable is of a generator above high
 --   IsRight low high right            ascending generators above low and up to high, with nonzero
 --                                     exponents of magnitude at most 2^63 - 1

@@ -9,7 +9,7 @@
 --   joined_words es      the words of expressions, one behind another
 --   is_within z          the test of IsNumber
 --   is_shaped_level n e  a level of an expression is well shaped, by the tests of its parts
---   IsShaped n e         products of two and more, generators from 1 to n, exponents that are numbers
+--   IsShaped n e         products of two and more, generators from 1 to n, exponents are numbers
 -- n a count · z exponent · e expression · u v w words
 use Rattle.std.specs.Prelude.{◌≡◌, ℕ, zero, suc, nat_le, Bool, true, not, ◌&&◌, ℤ, pos, negsuc, List, [], ◌∷◌, ◌++◌, length, map}
 use Rattle.std.specs.List.{list_all}
