@@ -1,11 +1,11 @@
 -- The rules of the order and of nodes, and answers of tests that decide them.
 --   a b l r letters · e exponents · k type · i number · o the answer of a test
-use Rattle.std.proofs.Common.{◌≡◌, ℕ, Bool, true, refl, sym, ◌∙◌}
+use Rattle.std.proofs.Common.{◌≡◌, Bool, true, refl, sym, ◌∙◌}
 use Rattle.std.specs.Prelude.{◌↔◌, IsTrue}
 use Rattle.dt_letters.specs.Letters.{Letter, leaf, node}
 use Rattle.dt_letters.specs.Order.{IsBefore, IsEarlier}
 use Rattle.dt_letters.specs.Meeting.{before, earlier, same_letter}
-use Rattle.dt_letters.specs.Allowed.{Exponents, GoesOn, goes_on}
+use Rattle.dt_letters.specs.Allowed.{GoesOn, goes_on}
 use Rattle.dt_letters.proofs.Relations.{earlier_test, earlier_of_test, tests_order}
 
 pub goes_on_test : (l r : Letter) → GoesOn l r → goes_on l r ≡ true

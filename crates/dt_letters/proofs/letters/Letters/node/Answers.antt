@@ -1,7 +1,6 @@
 -- The test decides what is allowed.
-use Rattle.std.proofs.Common.{◌≡◌, Bool, true, arith}
-use Rattle.std.specs.Prelude.{◌↔◌, IsTrue}
-use Rattle.dt_letters.specs.Allowed.{IsAllowed, exponents_of}
+use Rattle.std.proofs.Common.{◌≡◌, true, arith}
+use Rattle.dt_letters.specs.Allowed.{exponents_of}
 use Rattle.dt_letters.specs.Arena.{letter_in}
 use Rattle.dt_letters.proofs.Allowing.{allowed_decided}
 use Rattle.dt_letters.proofs.letters.Letters.node.Goals as goal
