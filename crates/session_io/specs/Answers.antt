@@ -5,17 +5,18 @@
 --   end_text e                 the lines that an end adds
 --   kept limit e bytes         the bytes whose lines are answered: the first ones up to the limit
 --                              where there are more
---   ended_lines e bytes        the lines of these that are answered: the last one, which has no line
---                              feed, only where all was read
+--   ended_lines e bytes        the lines of these that are answered: the last one, which has no
+--                              line feed, only where all was read
 --   answer_by reply e bytes    the replies to these, and the text of the end
---   last_piece reply rest e    what is written last of it: the reply to the piece behind the last line
---                              feed, or the text of the end
---   IsAnswer R limit bytes e out   the whole output that bytes determine, where their reading ends so
---   IsDetermined limit f taken more e bytes   these of the bytes taken and left are read, with this
---                              end, if nothing else stops the reading
+--   last_piece reply rest e    what is written last of it: the reply to the piece behind the last
+--                              line feed, or the text of the end
+--   IsAnswer R limit bytes e out              the whole output that bytes determine, where their
+--                                             reading ends so
+--   IsDetermined limit f taken more e bytes   these of the bytes taken and left are read, with
+--                                             this end, if nothing else stops the reading
 --   IsPromised R limit f taken more out       the whole output that they determine
---   IsOutput R limit f taken more r old new   what was written: a whole output with the end's cause,
---                              or a front of the promised one
+--   IsOutput R limit f taken more r old new   what was written: a whole output with the cause of
+--                                             its end, or a front of the promised one
 --   IsAnswered R limit f r old new            bytes of the source were taken and answered so
 -- R which texts are replies to a line · f what is fed · e end · r end or stop
 use Rattle.std.specs.Prelude.{◌≡◌, ℕ, ◌<◌, ◌≤◌, List, [], ◌∷◌, ◌++◌, length, take, codes, Option, Result, Ok, Err}

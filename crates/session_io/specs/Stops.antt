@@ -1,6 +1,6 @@
 -- Where writing stops.
---   IsStopped text old new s   a front of the text was written; where memory is wanting it ends at a
---                              line's end
+--   IsStopped text old new s   a front of the text was written; where memory is wanting it ends at
+--                              a line's end
 --   IsFront P front            a front of a text with P
 --   IsCut P front              one that is empty or ends at a line's end
 -- s stop · P which texts are meant

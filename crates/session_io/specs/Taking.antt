@@ -22,6 +22,8 @@ pub record IsTaken (limit : ℕ) (f : Fed) (taken more : List ℕ) : Type 0 wher
   pub bound : length taken ≤ limit + piece
 
 pub data IsEnd (limit : ℕ) (f : Fed) (taken more : List ℕ) : End → Type 0 where
-  finished : IsAtEnd f.left' → more ≡ [] → length taken ≤ limit → IsEnd limit f taken more end.Finished
+  finished : IsAtEnd f.left' → more ≡ [] → length taken ≤ limit
+      → IsEnd limit f taken more end.Finished
   failed : Rose f.faults f.faults' → length taken ≤ limit → IsEnd limit f taken more end.Failed
-  long : RoseAbove limit f.given f.given' → limit < length taken → IsEnd limit f taken more end.Long
+  long : RoseAbove limit f.given f.given' → limit < length taken
+      → IsEnd limit f taken more end.Long

@@ -62,7 +62,8 @@ fn answer_lines<'a, T: Replier, K: Sink>(
     bytes: &'a [u8],
     out: &mut K,
 ) -> Result<&'a [u8], Stop>
-    ensures rest { IfOk result (λ rest. lines_of bytes.now ≡ whole_lines bytes.now ++ rest.now ∷ []) }
+    ensures rest { IfOk result
+        (λ rest. lines_of bytes.now ≡ whole_lines bytes.now ++ rest.now ∷ []) }
     ensures ok { OnOk result (Appends (K.written out.old) (K.written out.new)
         (replies_by (T.reply replier.old) (whole_lines bytes.now))) }
     ensures at_line { OnOk result (EndsAtLine

@@ -1,6 +1,6 @@
-//! What no command owns: the bytes of a source up to a limit, their lines and the replies to them, and
-//! writing that stops. Promised: what was taken, and what was written of it. Not promised: what a
-//! line means.
+//! What no command owns: the bytes of a source up to a limit, their lines and the replies to them,
+//! and writing that stops. Promised: what was taken, and what was written of it. Not promised: what
+//! a line means.
 #![tactic(auto)]
 
 mod answering;
