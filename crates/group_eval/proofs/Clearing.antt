@@ -4,7 +4,7 @@ use Rattle.std.proofs.Common.{◌≡◌, ℕ, ◌+◌, ◌<◌, ◌≤◌, List,
 use Rattle.std.specs.Prelude.{Result, Ok, Err, OnOk, OnErr}
 use Rattle.binom_poly.specs.Reading.{Reading}
 use Rattle.binom_poly.specs.Readings.{value_at, width_at, with_value}
-use Rattle.hall_table.specs.Shape.{y_of}
+use Rattle.binom_poly.specs.Variable.{y_of}
 use Rattle.hall_table.specs.Tabled.{Tabled}
 use Rattle.hall_table.specs.Width.{HasRows}
 use Rattle.hall_table.proofs.Putting.{HasRows-with_value, value-same, value-other}

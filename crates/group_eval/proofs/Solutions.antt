@@ -18,7 +18,7 @@ use Rattle.hall_law.proofs.Grading.{IsClosed-from_entries, entry-from_entries}
 use Rattle.hall_law.proofs.Cutting.{Same, same_self, same_times}
 use Rattle.std.proofs.lemmas.List.{length-set}
 use Rattle.hall_table.specs.declared.wide_at.WideAt.TheVariants.{RowX, RowY, Sum}
-use Rattle.hall_table.specs.Shape.{y_of}
+use Rattle.binom_poly.specs.Variable.{y_of}
 use Rattle.hall_table.specs.Tabled.{Tabled, IsTabled, last_of, poly_at}
 use Rattle.hall_table.specs.Values.{point_of, values}
 use Rattle.hall_table.specs.Width.{width_for}

@@ -31,7 +31,7 @@ use Rattle.binom_poly.specs.declared.term.Term.{Term}
 use Rattle.binom_poly.specs.Polynomial.{value_of}
 use Rattle.hall_table.specs.declared.wide_at.WideAt.{WideAt}
 use Rattle.hall_table.specs.declared.wide_at.WideAt.TheVariants.{RowX, RowY, Sum}
-use Rattle.hall_table.specs.Shape.{y_of}
+use Rattle.binom_poly.specs.Variable.{y_of}
 use Rattle.hall_table.specs.Tabled.{Tabled, last_of, poly_at}
 use Rattle.hall_table.specs.Values.{point_of}
 use Rattle.hall_table.specs.Width.{width_for}

@@ -9,7 +9,7 @@ ghost use Rattle.binom_poly.specs.Polynomial.{value_of};
 ghost use Rattle.binom_poly.specs.Readings.{value_at};
 ghost use Rattle.hall_table.specs.Multiplies.{IsChecked};
 ghost use Rattle.hall_table.specs.Order.{sum_overflows};
-ghost use Rattle.hall_table.specs.Shape.{y_of};
+ghost use Rattle.binom_poly.specs.Variable.{y_of};
 ghost use Rattle.hall_table.specs.Tabled.{IsTabled, last_of, poly_at};
 ghost use Rattle.hall_table.specs.Width.{HasRows};
 ghost use Rattle.group_eval.specs.Elements.{IsOf, IsSolution};

@@ -10,7 +10,7 @@ use std::fs;
 use std::io::Read;
 use std::rt::Files;
 
-/// The files of a runtime, by their paths. It tells nothing of what they hold.
+/// The files of a runtime, by their paths. What they hold isn't known.
 #[derive(Drop)]
 pub struct FileShelf<'a, R> {
     rt: &'a R,

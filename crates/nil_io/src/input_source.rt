@@ -7,8 +7,8 @@ use super::failed::Failed;
 use super::source::Source;
 use std::io::Read;
 
-/// A reader of std as a source, such as standard input. It tells what the reader tells, and of
-/// standard input that is nothing.
+/// A reader of std as a source, such as standard input. Its bytes are known where the reader's are,
+/// and those of standard input aren't.
 #[derive(Drop)]
 pub struct InputSource<R> {
     reader: R,

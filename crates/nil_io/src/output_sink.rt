@@ -7,8 +7,8 @@ use super::failed::Failed;
 use super::sink::Sink;
 use std::io::Write;
 
-/// A writer of std as a sink, such as standard output. Each write flushes. It tells none of its bytes:
-/// where a flush fails, what went before may have been written.
+/// A writer of std as a sink, such as standard output. Each write flushes. None of its bytes is
+/// known: where a flush fails, what went before may have been written.
 #[derive(Drop)]
 pub struct OutputSink<W> {
     writer: W,
@@ -41,7 +41,8 @@ impl<W: Write> OutputSink<W> {
     }
 }
 
-/// Writes a front of a piece and flushes, or answers None where something failed or nothing was taken.
+/// Writes a front of a piece and flushes, or answers None where something failed or nothing was
+/// taken.
 fn write_and_flush<W: Write>(writer: &mut W, bytes: &[u8]) -> Option<usize>
     ensures bound { IfSome result (λ m. m ≤ length bytes.now) }
     ensures some { 0 < length bytes.now → IfSome result (λ m. 1 ≤ m) }

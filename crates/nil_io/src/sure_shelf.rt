@@ -1,4 +1,4 @@
-//! Files in memory that never fail.
+//! Files in memory, infallible.
 
 ghost use Rattle.std.specs.Prelude.{◌≡◌};
 ghost use Rattle.nil_io.specs.Files.{views};
@@ -9,7 +9,7 @@ use super::shelf_fault::ShelfFault;
 use std::alloc::Global;
 use std::marker::Model;
 
-/// Files in memory. It never fails, and a missing name has empty contents.
+/// Files in memory, an infallible shelf. A missing name has empty contents.
 #[derive(Drop)]
 pub struct SureShelf {
     files: Vec<(String, Vec<u8>)>,

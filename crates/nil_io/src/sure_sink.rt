@@ -1,4 +1,4 @@
-//! A sink that never fails.
+//! An infallible sink.
 
 ghost use Rattle.std.specs.Prelude.{◌≡◌};
 
@@ -6,7 +6,7 @@ use super::failed::Failed;
 use super::sink::Sink;
 use std::marker::Model;
 
-/// Takes every piece, and keeps the number of bytes. It tells none of them.
+/// Takes every piece, infallibly, and keeps the number of bytes. None of them is known.
 #[derive(Drop)]
 pub struct SureSink {
     taken: u64,

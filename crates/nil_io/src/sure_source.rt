@@ -1,4 +1,4 @@
-//! Bytes in memory that never fail.
+//! Bytes in memory, infallible.
 
 ghost use Rattle.std.specs.Prelude.{◌≡◌, ◌≤◌};
 
@@ -7,7 +7,7 @@ use super::pieces::Pieces;
 use super::source::Source;
 use std::marker::Model;
 
-/// Bytes in memory, given in pieces. It never fails.
+/// Bytes in memory, given in pieces, an infallible source.
 #[derive(Drop)]
 pub struct SureSource {
     pieces: Pieces,

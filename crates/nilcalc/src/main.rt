@@ -2,6 +2,9 @@
 //! session; here only the words, and the status that the program ends with.
 #![tactic(auto)]
 
+mod args_fault;
+
+use args_fault::ArgsFault;
 use nil_io::{FileShelf, InputSource, OutputSink};
 use query_session::{Status, Words, session};
 use std::alloc::Global;
@@ -11,33 +14,32 @@ use std::{env, io};
 fn main(rt: HostRuntime) -> ExitCode {
     let alloc = rt.alloc();
     let status = match read_words(&rt, alloc) {
-        Some(words) => {
-            let mut shelf = FileShelf::new(&rt);
-            let mut queries = InputSource::new(rt.reader());
-            let mut out = OutputSink::new(io::writer(&rt));
-            session(alloc, &words, &mut shelf, &mut queries, &mut out)
+        Ok(words) => answer(&rt, &words),
+        // Such words fit no form.
+        Err(ArgsFault::NotText) => {
+            let words = Words {
+                items: Vec::new(alloc),
+            };
+            answer(&rt, &words)
         }
-        None => Status::Memory,
+        Err(ArgsFault::Memory) => Status::Memory,
     };
     ExitCode::from(status.number())
 }
 
-/// The words behind the program's name, none where one isn't UTF-8. There are none at all where
-/// memory is wanting.
-fn read_words(rt: &HostRuntime, alloc: Global) -> Option<Words> {
-    let arguments = match env::args(rt) {
-        Ok(arguments) => arguments,
-        Err(fault) => {
-            if fault.kind() == io::ErrorKind::OutOfMemory {
-                return None;
-            }
-            return Some(Words {
-                items: Vec::new(alloc),
-            });
-        }
-    };
+/// The session over the outside.
+fn answer(rt: &HostRuntime, words: &Words) -> Status {
+    let mut shelf = FileShelf::new(rt);
+    let mut queries = InputSource::new(rt.reader());
+    let mut out = OutputSink::new(io::writer(rt));
+    session(rt.alloc(), words, &mut shelf, &mut queries, &mut out)
+}
+
+/// The words behind the program's name.
+fn read_words(rt: &HostRuntime, alloc: Global) -> Result<Words, ArgsFault> {
+    let arguments = env::args(rt)?;
     let Ok(items) = arguments.skip(1).collect(alloc) else {
-        return None;
+        return Err(ArgsFault::Memory);
     };
-    Some(Words { items })
+    Ok(Words { items })
 }

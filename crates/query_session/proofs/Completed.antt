@@ -1,15 +1,26 @@
--- A run without a fault answers all.
-use Rattle.std.proofs.Common.{◌≡◌, ℕ, ◌⊎◌, ◌<◌, ◌≤◌, inl, inr, List, length, Option, Some, None, IfSome, option_and_then, refl, sym, ◌∙◌, ap, subst, arith, length-append}
+-- A session without a fault answers all.
+use Rattle.std.proofs.Common.{◌≡◌, ℕ, ◌⊎◌, ◌<◌, ◌≤◌, inl, inr, List, length, Option, Some, None, IfSome, refl, sym, ◌∙◌, ap, subst, arith, length-append}
 use Rattle.std.specs.Io.KnownBytes.{Consumes}
 use Rattle.nil_pres.specs.Presented.{Presented}
 use Rattle.pres_text.specs.File.{IsFile}
 use Rattle.pres_text.specs.FirstFault.{first_fault}
-use Rattle.nil_io.specs.Causes.{Rose}
+use Rattle.hall_table.specs.Multiplies.{Paired}
+use Rattle.nil_io.specs.declared.shelf_fault.ShelfFault.{ShelfFault}
+use Rattle.session_io.specs.declared.end.End.{End}
+use Rattle.session_io.specs.Asked.{Asked, Fed}
+use Rattle.session_io.specs.Files as files
+use Rattle.session_io.specs.Files.{Got, AreGot, IsUnread}
+use Rattle.session_io.specs.Taking as taking
+use Rattle.session_io.specs.Taking.{IsEnd}
 use Rattle.query_session.specs.declared.status.Status.{Status}
 use Rattle.query_session.specs.declared.status.Status.TheVariants as s
 use Rattle.query_session.specs.Limits.{file_limit}
-use Rattle.query_session.specs.Outside.{Asked, Fed, IsKnown, run_name, IsSmooth}
-use Rattle.query_session.specs.Runs.{IsFileRefused, bad_file, outside, IsRefused, usage, shelf_failed, shelf_long, in_file, IsOutput, refused, done, source_failed, source_long, Wrote, IsRun}
+use Rattle.query_session.specs.Right.{IsReply}
+use Rattle.query_session.specs.Statuses.{end_status}
+use Rattle.query_session.specs.Runs.{IsWhole, before, answered, IsPromise, Wrote}
+use Rattle.query_session.specs.Run.{IsFileRefused, bad_file, outside, IsRefused, unread, in_file, IsOpened, IsRunOf}
+use Rattle.query_session.specs.Commands.{Command, IsSessionOf, IsSession}
+use Rattle.query_session.specs.Smooth.{IsSmooth}
 
 -- what is taken is a front of what was there
 length-taken : (old new : Option (List ℕ)) (taken xs : List ℕ) → old ≡ Some xs
@@ -34,63 +45,70 @@ long-known (Some ys) xs limit e h = let same : ys ≡ xs = cc in omega (arith, h
 module _
     (one : (file : List ℕ) (p q : Presented) → IsFile p file → IsFile q file → p ≡ q)
     (none : (file : List ℕ) (p : Presented) → IsFile p file → first_fault file ≡ None)
-    (a : Asked) (f : Fed) (p : Presented) (smooth : IsSmooth a f p) where
-  known_file : (file : List ℕ) → IsKnown a file → file ≡ smooth.file
-  known_file file h =
-      known-is (option_and_then a.contents (run_name a.words)) file smooth.file
-      (ap (option_and_then a.contents) smooth.named ∙ smooth.known) h
+    (limit : ℕ) (a : Asked) (f : Fed) (p : Presented) (smooth : IsSmooth limit a f p) where
+  file_not_refused : (file : List ℕ) (names : List (List ℕ)) (status : Status) → IsFile p file
+      → IsFileRefused file names status → ⊥
+  file_not_refused file names status is (bad_file line kind e) = let k = none file p is in cc
+  file_not_refused file names status is (outside q j i e k) =
+      let same : p ≡ q = one file p q is e in let m = smooth.central in cc
 
-  same_name : (name : List ℕ) → run_name a.words ≡ Some name → name ≡ smooth.name
-  same_name name h = let k = smooth.named in cc
+  not_unread : (e : ShelfFault) → IsUnread a smooth.pres file_limit e → ⊥
+  not_unread e (files.failed r) = smooth.shelf r
+  not_unread e (files.long r l) =
+      let l' : file_limit < length smooth.file =
+      long-known (a.contents smooth.pres) smooth.file file_limit smooth.known l in
+      omega (arith, l', smooth.within)
 
-  module _ (file : List ℕ) (known : IsKnown a file) where
-    is_file : IsFile p file
-    is_file = subst (IsFile p) (sym (known_file file known)) smooth.is_file
+  not_refused : (got : List Got) (names : List (List ℕ)) (status : Status) → AreGot a got
+      → IsRefused a smooth.pres got names status → ⊥
+  not_refused got names status h (unread e u) = not_unread e u
+  not_refused got names status h (in_file file ns t r) =
+      let same : file ≡ smooth.file =
+      known-is (a.contents smooth.pres) file smooth.file smooth.known h.0.known in
+      file_not_refused file ns t (subst (IsFile p) (sym same) smooth.is_file) r
 
-    file_not_refused : (status : Status) → IsFileRefused file status → ⊥
-    file_not_refused status (bad_file line kind e) = let k = none file p is_file in cc
-    file_not_refused status (outside q j i e k) =
-        let same : p ≡ q = one file p q is_file e in let m = smooth.central in cc
+  module _ (got : List Got) (are : AreGot a got) (taken more : List ℕ)
+      (took : Consumes f.left f.left' taken) where
+    end_done : (e : End) → IsEnd limit f taken more e → end_status e ≡ s.Done
+    end_done e (taking.finished h m l) = refl
+    end_done e (taking.failed r l) = absurd (smooth.source r)
+    end_done e (taking.long r l) =
+        let within : length taken ≤ length smooth.queries =
+        length-taken f.left f.left' taken smooth.queries smooth.asked took in
+        absurd (omega (arith, l, within, smooth.few))
 
-    not_refused : (status : Status) → IsRefused a file status → ⊥
-    not_refused status (usage e) = let k = smooth.named in cc
-    not_refused status (shelf_failed n e r) =
-        smooth.shelf (subst (λ (x : List ℕ). Rose (a.faults x) (a.faults' x)) (same_name n e) r)
-    not_refused status (shelf_long n e r l) =
-        let l' : file_limit < length smooth.file = long-known (a.contents n) smooth.file file_limit
-        (ap a.contents (same_name n e) ∙ smooth.known) l in
-        omega (arith, l', smooth.within)
-    not_refused status (in_file n t e r) = file_not_refused t r
+    whole_done : (status : Status) (out : List ℕ)
+        → IsWhole Paired (IsOpened smooth.pres) IsReply (IsRefused a smooth.pres) limit f got taken
+        more status out
+        → status ≡ s.Done
+    whole_done status out (before names t r u) = absurd (not_refused got names t are r)
+    whole_done status out (answered c e text opened ends answer) = end_done e ends
 
-    module _ (taken : List ℕ) (took : Consumes f.left f.left' taken) where
-      output_done : (status : Status) (out : List ℕ) → IsOutput a f file taken status out
-          → status ≡ s.Done
-      output_done status out (refused t r u) = absurd (not_refused t r)
-      output_done status out (done q rs k e h) = refl
-      output_done status out (source_failed q rs k e h) = absurd (smooth.source e)
-      output_done status out (source_long q front rest rs k e j l m h) =
-          let within : length taken ≤ length smooth.queries =
-          length-taken f.left f.left' taken smooth.queries smooth.asked took in
-          absurd (omega (arith, m, within, smooth.few))
-
-      wrote_done : (status : Status) (old new : Option (List ℕ)) → Wrote a f file taken status old new
-          → (status ≡ s.WriteFault → ⊥) → (status ≡ s.Done) ⊎ (status ≡ s.Memory)
-      wrote_done s.Done old new w n = inl refl
-      wrote_done (s.Usage kind) old new w n = inl (output_done (s.Usage kind) w.0 w.1)
-      wrote_done (s.BadFile line kind) old new w n = inl (output_done (s.BadFile line kind) w.0 w.1)
-      wrote_done s.ReadFault old new w n = inl (output_done s.ReadFault w.0 w.1)
-      wrote_done s.WriteFault old new w n = absurd (n refl)
-      wrote_done s.Memory old new w n = inr refl
-      wrote_done s.LongInput old new w n = inl (output_done s.LongInput w.0 w.1)
-      wrote_done (s.NotCentral j i) old new w n = inl (output_done (s.NotCentral j i) w.0 w.1)
+    wrote_done : (status : Status) (old new : Option (List ℕ))
+        → Wrote
+        (IsWhole Paired (IsOpened smooth.pres) IsReply (IsRefused a smooth.pres) limit f got taken
+        more)
+        (IsPromise Paired (IsOpened smooth.pres) IsReply (IsRefused a smooth.pres) limit f got taken
+        more)
+        f status old new
+        → (status ≡ s.WriteFault → ⊥) → (status ≡ s.Done) ⊎ (status ≡ s.Memory)
+    wrote_done s.Done old new w n = inl refl
+    wrote_done (s.Usage kind) old new w n = inl (whole_done (s.Usage kind) w.0 w.1)
+    wrote_done (s.BadFile line kind) old new w n = inl (whole_done (s.BadFile line kind) w.0 w.1)
+    wrote_done s.ReadFault old new w n = inl (whole_done s.ReadFault w.0 w.1)
+    wrote_done s.WriteFault old new w n = absurd (n refl)
+    wrote_done s.Memory old new w n = inr refl
+    wrote_done s.LongInput old new w n = inl (whole_done s.LongInput w.0 w.1)
+    wrote_done (s.NotCentral j i) old new w n = inl (whole_done (s.NotCentral j i) w.0 w.1)
 
 module _
     (one : (file : List ℕ) (p q : Presented) → IsFile p file → IsFile q file → p ≡ q)
     (none : (file : List ℕ) (p : Presented) → IsFile p file → first_fault file ≡ None) where
-  pub ends-smoothly : (a : Asked) (f : Fed) (p : Presented) (status : Status)
-      (old new : Option (List ℕ)) → IsRun a f status old new → IsSmooth a f p → (status ≡ s.WriteFault → ⊥)
-      → (status ≡ s.Done) ⊎ (status ≡ s.Memory)
-  ends-smoothly a f p status old new run smooth n =
-      wrote_done one none a f p smooth run.file run.known run.answered.taken run.answered.took status
-      old new
-      run.answered.wrote n
+  pub ends-smoothly : (limit : ℕ) (a : Asked) (f : Fed) (p : Presented) (status : Status)
+      (old new : Option (List ℕ)) → IsSession limit a f status old new → IsSmooth limit a f p
+      → (status ≡ s.WriteFault → ⊥) → (status ≡ s.Done) ⊎ (status ≡ s.Memory)
+  ends-smoothly limit a f p status old new session smooth n =
+      let S : Option Command → Type 0 = λ d. IsSessionOf d limit a f status old new in
+      let run : IsRunOf smooth.pres limit a f status old new = subst S smooth.command session in
+      wrote_done one none limit a f p smooth run.files run.got run.taken run.more run.took.took status
+      old new run.wrote n

@@ -16,11 +16,11 @@ use Rattle.word_text.specs.declared.query_fault.QueryFault.{QueryFault}
 use Rattle.word_text.specs.Lines.{ReadsAs, FailsWith}
 use Rattle.word_text.specs.Reading.{reading}
 use Rattle.word_text.specs.Vectors.{text_of_entries}
-use Rattle.central_table.specs.Central.{central_table}
+use Rattle.hall_table.specs.Multiplies.{Paired}
 use Rattle.group_eval.specs.declared.reply.Reply.{Reply}
 use Rattle.group_eval.specs.Queries.{IsWide}
 use Rattle.group_eval.specs.Right.{IsTheOne, IsRightReply, value, yes, no, solution, quotient, nothing}
-use Rattle.query_session.specs.Pieces.{as_line}
+use Rattle.session_io.specs.Lines.{as_line}
 use Rattle.query_session.specs.Replies.{line_of}
 use Rattle.query_session.specs.Right.{IsQuery, IsFaulty, IsReply, long, faulty, wide, right}
 use Rattle.query_session.proofs.VectorTexts.{text_of_entries-same}
@@ -49,33 +49,33 @@ vector_reply p e q r h (solution u v x k) = cc
 vector_reply p e q r h (quotient u v x k) = cc
 vector_reply p e q r h nothing = cc
 
-module _ (p : Presented)
-    (reads : (line : List ℕ) (q : Query) → ReadsAs p.names line q ↔ (reading p.names line ≡ Ok q))
+module _ (c : Paired)
+    (reads : (line : List ℕ) (q : Query) → ReadsAs c.pres.names line q ↔ (reading c.pres.names line ≡ Ok q))
     (fails : (line : List ℕ) (f : QueryFault)
-    → FailsWith p.names line f ↔ (reading p.names line ≡ Err f)) where
-  module _ (line : List ℕ) (e : Expr) (q : IsQuery p line (query.Value e)) where
-    is_read : reading p.names (strip_carriage_return line) ≡ Ok (query.Value e)
+    → FailsWith c.pres.names line f ↔ (reading c.pres.names line ≡ Err f)) where
+  module _ (line : List ℕ) (e : Expr) (q : IsQuery c.pres line (query.Value e)) where
+    is_read : reading c.pres.names (strip_carriage_return line) ≡ Ok (query.Value e)
     is_read = (reads (strip_carriage_return line) (query.Value e)).0 q.reads
 
-    same_query : (o : Query) → IsQuery p line o → o ≡ query.Value e
+    same_query : (o : Query) → IsQuery c.pres line o → o ≡ query.Value e
     same_query o h =
-        let other : reading p.names (strip_carriage_return line) ≡ Ok o =
+        let other : reading c.pres.names (strip_carriage_return line) ≡ Ok o =
         (reads (strip_carriage_return line) o).0 h.reads in
         cc (is_read, other)
 
-    no_fault : (f : QueryFault) → IsFaulty p line f → ⊥
+    no_fault : (f : QueryFault) → IsFaulty c.pres line f → ⊥
     no_fault f h =
-        let other : reading p.names (strip_carriage_return line) ≡ Err f =
+        let other : reading c.pres.names (strip_carriage_return line) ≡ Err f =
         (fails (strip_carriage_return line) f).0 h.fails in
         cc (is_read, other)
 
-    IsVectorReply-reply : (text : List ℕ) → (IsWide (central_table p) (query.Value e) → ⊥)
-        → IsReply p line text → IsVectorReply p e text
+    IsVectorReply-reply : (text : List ℕ) → (IsWide c.table (query.Value e) → ⊥)
+        → IsReply c line text → IsVectorReply c.pres e text
     IsVectorReply-reply text n (long l) = absurd (omega (arith, l, q.within))
     IsVectorReply-reply text n (faulty f h) = absurd (no_fault f h)
     IsVectorReply-reply text n (wide o h w) =
-        absurd (n (subst (IsWide (central_table p)) (same_query o h) w))
-    IsVectorReply-reply text n (right o r h k is) = vector_reply p e o r (same_query o h) is
+        absurd (n (subst (IsWide c.table) (same_query o h) w))
+    IsVectorReply-reply text n (right o r h k is) = vector_reply c.pres e o r (same_query o h) is
 
 module _ (p : Presented)
     (back : (u v : List Letter) → Congruent (relations_of p) 1 u v → Congruent (relations_of p) 1 v u)
@@ -103,20 +103,20 @@ module _ (p : Presented)
       (back (unrolled e) (unrolled f) h)) in
       a.written ∙ ap (λ (v : List ℤ). as_line (text_of_entries v)) (sym same) ∙ sym b.written
 
-module _ (p : Presented)
-    (reads : (line : List ℕ) (q : Query) → ReadsAs p.names line q ↔ (reading p.names line ≡ Ok q))
+module _ (c : Paired)
+    (reads : (line : List ℕ) (q : Query) → ReadsAs c.pres.names line q ↔ (reading c.pres.names line ≡ Ok q))
     (fails : (line : List ℕ) (f : QueryFault)
-    → FailsWith p.names line f ↔ (reading p.names line ≡ Err f))
-    (back : (u v : List Letter) → Congruent (relations_of p) 1 u v → Congruent (relations_of p) 1 v u)
-    (chain : (u v w : List Letter) → Congruent (relations_of p) 1 u v
-    → Congruent (relations_of p) 1 v w → Congruent (relations_of p) 1 u w)
+    → FailsWith c.pres.names line f ↔ (reading c.pres.names line ≡ Err f))
+    (back : (u v : List Letter) → Congruent (relations_of c.pres) 1 u v → Congruent (relations_of c.pres) 1 v u)
+    (chain : (u v w : List Letter) → Congruent (relations_of c.pres) 1 u v
+    → Congruent (relations_of c.pres) 1 v w → Congruent (relations_of c.pres) 1 u w)
     (line line' text text' : List ℕ) (e f : Expr)
-    (q : IsQuery p line (query.Value e)) (n : IsWide (central_table p) (query.Value e) → ⊥)
-    (r : IsReply p line text)
-    (q' : IsQuery p line' (query.Value f)) (n' : IsWide (central_table p) (query.Value f) → ⊥)
-    (r' : IsReply p line' text') where
-  pub equal-replies : (text ≡ text') ↔ Congruent (relations_of p) 1 (unrolled e) (unrolled f)
+    (q : IsQuery c.pres line (query.Value e)) (n : IsWide c.table (query.Value e) → ⊥)
+    (r : IsReply c line text)
+    (q' : IsQuery c.pres line' (query.Value f)) (n' : IsWide c.table (query.Value f) → ⊥)
+    (r' : IsReply c line' text') where
+  pub equal-replies : (text ≡ text') ↔ Congruent (relations_of c.pres) 1 (unrolled e) (unrolled f)
   equal-replies =
-      let a = IsVectorReply-reply p reads fails line e q text n r in
-      let b = IsVectorReply-reply p reads fails line' f q' text' n' r' in
-      (words_of_texts p back chain e f text text' a b, texts_of_words p back chain e f text text' a b)
+      let a = IsVectorReply-reply c reads fails line e q text n r in
+      let b = IsVectorReply-reply c reads fails line' f q' text' n' r' in
+      (words_of_texts c.pres back chain e f text text' a b, texts_of_words c.pres back chain e f text text' a b)

@@ -1,168 +1,91 @@
--- A presentation that was opened, or a status that refused it.
-use Rattle.std.proofs.Common.{◌≡◌, ℕ, ◌⊎◌, inl, inr, List, [], Option, Some, None, Result, Ok, Err, IfSome, IfOk, IfErr, option_and_then, ◌++◌, ◌≤◌, length, take, drop, refl, sym, ◌∙◌, ap, subst, arith, take-append-drop, length-take}
-use Rattle.std.specs.Io.KnownBytes.{Consumes, Appends}
+-- The command `run`: a presentation that was opened, or a status that refused it.
+--   IsPlain status   it is no write fault and no want of memory
+use Rattle.std.proofs.Common.{◌≡◌, ℕ, ◌≤◌, ◌⊎◌, inl, inr, List, [], ◌∷◌, Some, None, Result, Ok, Err, IfSome, IfOk, IfErr, length, refl}
+use Rattle.nil_word.specs.Congruence.{IsConsistent}
+use Rattle.nil_pres.specs.Relations.{relations_of}
 use Rattle.pres_text.specs.declared.file_kind.FileKind.{FileKind}
 use Rattle.pres_text.specs.declared.pres_fault.PresFault.{PresFault}
 use Rattle.pres_text.specs.declared.pres_fault.PresFault.TheVariants as fault
 use Rattle.pres_text.specs.File.{IsFile}
 use Rattle.pres_text.specs.FirstFault.{first_fault}
-use Rattle.nil_word.specs.Congruence.{IsConsistent}
-use Rattle.nil_pres.specs.Presented.{Presented}
+use Rattle.hall_table.specs.Multiplies.{Paired}
+use Rattle.central_table.specs.Central.{central_table, not_central}
+use Rattle.nil_io.specs.declared.shelf_fault.ShelfFault.{ShelfFault}
+use Rattle.nil_io.specs.declared.shelf_fault.ShelfFault.TheVariants as shelf
+use Rattle.nil_io.specs.Causes.{Rose}
+use Rattle.session_io.specs.Asked.{Asked}
+use Rattle.session_io.specs.Files as files
+use Rattle.session_io.specs.Files.{Got, AreGot, IsUnread}
 use Rattle.query_session.specs.declared.status.Status.{Status}
 use Rattle.query_session.specs.declared.status.Status.TheVariants as s
-use Rattle.nil_pres.specs.Relations.{relations_of}
-use Rattle.central_table.specs.Central.{not_central}
-use Rattle.query_session.specs.Pieces.{as_line}
-use Rattle.query_session.specs.Statuses.{text_of}
-use Rattle.query_session.specs.Writing.{Ended}
-use Rattle.query_session.specs.Outside.{Asked, Fed, fed, IsKnown, run_name}
-use Rattle.query_session.specs.Runs.{IsOpened, IsAnswered, IsJudged, IsFileRefused, bad_file, outside, IsRefused, usage, shelf_failed, shelf_long, in_file, refused, before, Wrote, IsRun, HasOpened, HasRefused}
-use Rattle.query_session.proofs.Appending.{Appends-none}
-use Rattle.query_session.proofs.Written.{wrote_ended}
+use Rattle.query_session.specs.Limits.{file_limit}
+use Rattle.query_session.specs.Statuses.{file_status}
+use Rattle.query_session.specs.Run.{presentation, IsFileRefused, bad_file, outside, IsJudged, IsRefused, unread, in_file, HasOpened, HasRefused}
 
-known_of : (o : Option (List ℕ)) → (file : List ℕ) × IfSome o (λ known. file ≡ known)
-known_of None = ([], tt)
-known_of (Some x) = (x, refl)
+module _ (a : Asked) (pres : List ℕ) where
+  module _ (file : List ℕ) (known : IfSome (a.contents pres) (λ known. file ≡ known))
+      (within : length file ≤ file_limit) where
+    got : AreGot a (presentation pres file ∷ [])
+    got = (record { known = known; within = within }, tt)
 
-module _ (a : Asked) where
-  -- a status for whatever the file holds
-  pub HasRefused-any : (status : Status)
-      → ((file : List ℕ) → (status ≡ s.Memory) ⊎ IsRefused a file status) → HasRefused a status
-  HasRefused-any status h =
-      let t = known_of (option_and_then a.contents (run_name a.words)) in
-      record { file = t.0; known = t.1; cause = h t.0 }
-
-  module _ (name file : List ℕ) (named : run_name a.words ≡ Some name)
-      (read : IfSome (a.contents name) (λ known. file ≡ known)) where
-    known : IsKnown a file
-    known =
-        subst (λ (o : Option (List ℕ)). IfSome (option_and_then a.contents o) (λ t. file ≡ t))
-        (sym named) read
-
-    pub HasOpened-read : (r : Result Presented Status) → IfOk r (λ p. IsFile p file)
-        → IfOk r (λ p. not_central p ≡ None) → IfOk r (λ p. IsConsistent (relations_of p) 1)
-        → IfOk r (HasOpened a)
-    HasOpened-read (Ok p) h k j = record {
-      file = file;
-      known = known;
-      opened = record { name = name; named = named; is_file = h; central = k; consistent = j };
+    pub HasOpened-read : (r : Result Paired Status) → IfOk r (λ c. IsFile c.pres file)
+        → IfOk r (λ c. not_central c.pres ≡ None) → IfOk r (λ c. c.table ≡ central_table c.pres)
+        → IfOk r (λ c. IsConsistent (relations_of c.pres) 1) → IfOk r (HasOpened a pres)
+    HasOpened-read (Ok c) h k t j = record {
+      files = presentation pres file ∷ [];
+      got = got;
+      opened =
+          record { file = file; got = refl; is_file = h; central = k; table = t; consistent = j };
     }
-    HasOpened-read (Err e) h k j = tt
+    HasOpened-read (Err e) h k t j = tt
 
-    judged : (status : Status) → IsJudged file status → (status ≡ s.Memory) ⊎ IsRefused a file status
-    judged status (inl e) = inl e
-    judged status (inr h) = inr (in_file name status named h)
+    pub HasRefused-read : (r : Result Paired Status) → IfErr r (IsJudged file)
+        → IfErr r (HasRefused a pres)
+    HasRefused-read (Ok c) h = tt
+    HasRefused-read (Err status) (inl m) = record { files = []; got = tt; cause = inl m }
+    HasRefused-read (Err status) (inr (names, h)) = record {
+      files = presentation pres file ∷ [];
+      got = got;
+      cause = inr (names, in_file file names status h);
+    }
 
-    pub HasRefused-read : (r : Result Presented Status) → IfErr r (IsJudged file)
-        → IfErr r (HasRefused a)
-    HasRefused-read (Ok p) h = tt
-    HasRefused-read (Err status) h = record { file = file; known = known; cause = judged status h }
+  pub HasRefused-unread : (e : ShelfFault)
+      → (e ≡ shelf.Failed → Rose (a.faults pres) (a.faults' pres))
+      → (e ≡ shelf.Long → IsUnread a pres file_limit shelf.Long)
+      → HasRefused a pres (file_status e)
+  HasRefused-unread shelf.Failed h k = record {
+    files = [];
+    got = tt;
+    cause = inr ([], unread shelf.Failed (files.failed (h refl)));
+  }
+  HasRefused-unread shelf.Long h k =
+      record { files = []; got = tt; cause = inr ([], unread shelf.Long (k refl)) }
+  HasRefused-unread shelf.Memory h k = record { files = []; got = tt; cause = inl refl }
 
 -- the fault of a file
 pub IsJudged-fault : (file : List ℕ) (f : PresFault) (line : ℕ) (kind : FileKind)
     → f ≡ fault.File line kind
     → (f ≡ fault.Memory) ⊎ (first_fault file ≡ Some f) → IsJudged file (s.BadFile line kind)
 IsJudged-fault file f line kind e (inl m) = inl (cc)
-IsJudged-fault file f line kind e (inr h) = inr (bad_file line kind (h ∙ ap Some e))
+IsJudged-fault file f line kind e (inr h) =
+    let same : first_fault file ≡ Some (fault.File line kind) = cc in
+    inr ([], bad_file line kind same)
 
--- a session over a presentation that was opened
-pub IsRun-opened : (a : Asked) (f : Fed) (p : Presented) (status : Status) (o n : Option (List ℕ))
-    → HasOpened a p
-    → ((file : List ℕ) → IsOpened a file p → IsAnswered a f file status o n) → IsRun a f status o n
-IsRun-opened a f p status o n h answered =
-    record { file = h.file; known = h.known; answered = answered h.file h.opened }
+-- refusals are no write faults, nor want of memory
+abbrev pub IsPlain : Status → Type 0
+IsPlain status = (status ≡ s.WriteFault → ⊥) × (status ≡ s.Memory → ⊥)
 
-file_not_write_fault : (file : List ℕ) (status : Status) → IsFileRefused file status
-    → status ≡ s.WriteFault → ⊥
-file_not_write_fault file status (bad_file line kind e) h = cc
-file_not_write_fault file status (outside p j i e k) h = cc
+file_plain : (file : List ℕ) (names : List (List ℕ)) (status : Status)
+    → IsFileRefused file names status → IsPlain status
+file_plain file names status (bad_file line kind e) = ((λ h. cc), λ h. cc)
+file_plain file names status (outside p j i e k) = ((λ h. cc), λ h. cc)
 
-not_write_fault : (a : Asked) (file : List ℕ) (status : Status) → IsRefused a file status
-    → status ≡ s.WriteFault → ⊥
-not_write_fault a file status (usage e) h = cc
-not_write_fault a file status (shelf_failed n e r) h = cc
-not_write_fault a file status (shelf_long n e r l) h = cc
-not_write_fault a file status (in_file n t e r) h = file_not_write_fault file t r h
+unread_plain : (a : Asked) (pres : List ℕ) (limit : ℕ) (e : ShelfFault) → IsUnread a pres limit e
+    → IsPlain (file_status e)
+unread_plain a pres limit e (files.failed r) = ((λ h. cc), λ h. cc)
+unread_plain a pres limit e (files.long r l) = ((λ h. cc), λ h. cc)
 
--- a refusal is no write fault
-HasRefused-written : (a : Asked) (status : Status) → HasRefused a status → status ≡ s.WriteFault → ⊥
-HasRefused-written a status r e = either r.cause
-  where
-    either : (status ≡ s.Memory) ⊎ IsRefused a r.file status → ⊥
-    either (inl m) = cc
-    either (inr h) = not_write_fault a r.file status h e
-
-pub Consumes-none : (o : Option (List ℕ)) → Consumes o o []
-Consumes-none None = tt
-Consumes-none (Some xs) = refl
-
-file_not_memory : (file : List ℕ) (status : Status) → IsFileRefused file status → status ≡ s.Memory
-    → ⊥
-file_not_memory file status (bad_file line kind e) h = cc
-file_not_memory file status (outside p j i e k) h = cc
-
-not_memory : (a : Asked) (file : List ℕ) (status : Status) → IsRefused a file status
-    → status ≡ s.Memory → ⊥
-not_memory a file status (usage e) h = cc
-not_memory a file status (shelf_failed n e r) h = cc
-not_memory a file status (shelf_long n e r l) h = cc
-not_memory a file status (in_file n t e r) h = file_not_memory file t r h
-
--- a session that was refused, or found no memory before the queries
-pub IsRun-refused : (a : Asked) (left : Option (List ℕ)) (faults given : ℕ) (status r : Status)
-    (o n : Option (List ℕ)) → HasRefused a status
-    → (status ≡ s.Memory → (r ≡ s.Memory) × (n ≡ o))
-    → ((status ≡ s.Memory → ⊥) → Ended (as_line (text_of status)) status o n r)
-    → IsRun a (fed left left faults faults given given) r o n
-IsRun-refused a left faults given status r o n h memory e = either h.cause
-  where
-    short : (m : status ≡ s.Memory)
-        → Wrote a (fed left left faults faults given given) h.file [] r o n
-    short m =
-        let k = memory m in
-        let W : Status → Type 0 =
-        λ t. Wrote a (fed left left faults faults given given) h.file [] t o n in
-        subst W (sym k.0) (
-          [],
-          before (record { left = refl; faults = refl; given = refl }),
-          subst (λ (x : Option (List ℕ)). Appends o x []) (sym k.1) (Appends-none o),
-        )
-
-    either : (status ≡ s.Memory) ⊎ IsRefused a h.file status
-        → IsRun a (fed left left faults faults given given) r o n
-    either (inl m) = record {
-      file = h.file;
-      known = h.known;
-      answered = record { taken = []; took = Consumes-none left; wrote = short m };
-    }
-    either (inr k) = record {
-      file = h.file;
-      known = h.known;
-      answered = record {
-        taken = [];
-        took = Consumes-none left;
-        wrote =
-            wrote_ended a (fed left left faults faults given given) h.file [] o n status
-            (as_line (text_of status)) r
-            (refused status k (record { left = refl; faults = refl; given = refl }))
-            (e (not_memory a h.file status k));
-      };
-    }
-
--- a write fault comes from the sink
-pub write_fault-refused : (a : Asked) (status r : Status) (R : Type 0) → HasRefused a status
-    → (r ≡ s.WriteFault → (status ≡ s.WriteFault) ⊎ R) → r ≡ s.WriteFault → R
-write_fault-refused a status r R h k e = either (k e)
-  where
-    either : (status ≡ s.WriteFault) ⊎ R → R
-    either (inl w) = absurd (HasRefused-written a status h w)
-    either (inr x) = x
-
--- the first bytes of others
-pub front_of : (xs ys : List ℕ) (n : ℕ) → ys ≡ take n xs → n ≤ length xs
-    → (rest : List ℕ) × (xs ≡ ys ++ rest) × (length ys ≡ n)
-front_of xs ys n e h = (
-  drop n xs,
-  sym (take-append-drop n xs) ∙ ap (λ (zs : List ℕ). zs ++ drop n xs) (sym e),
-  ap length e ∙ length-take n xs ∙ omega arith,
-)
+pub refused_plain : (a : Asked) (pres : List ℕ) (files : List Got) (names : List (List ℕ))
+    (status : Status) → IsRefused a pres files names status → IsPlain status
+refused_plain a pres files names status (unread e u) = unread_plain a pres file_limit e u
+refused_plain a pres files names status (in_file file ns t h) = file_plain file ns t h

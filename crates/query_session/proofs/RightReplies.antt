@@ -1,12 +1,12 @@
--- The replies that are computed are the right ones.
-use Rattle.std.proofs.Common.{◌≡◌, ◌↔◌, ℕ, ◌≤◌, nat_lt, Bool, cond, true, false, List, [], ◌∷◌, length, None, Result, Ok, Err, refl, subst, codes}
+-- The reply that is computed is the right one.
+use Rattle.std.proofs.Common.{◌≡◌, ◌↔◌, ℕ, ◌≤◌, nat_lt, Bool, cond, true, false, List, length, None, Result, Ok, Err, refl, sym, subst, codes}
 use Rattle.std.specs.Str.Lines.{strip_carriage_return}
 use Rattle.std.proofs.lemmas.Bool.{ltb-true, ltb-false}
 use Rattle.nil_word.specs.declared.query.Query.{Query}
 use Rattle.nil_word.specs.Queries.{IsShapedQuery}
 use Rattle.hall_law.specs.Table.{IsTable}
 use Rattle.hall_table.specs.Multiplies.{Paired, IsChecked}
-use Rattle.hall_table.specs.Tabled.{IsTabled, last_of}
+use Rattle.hall_table.specs.Tabled.{Tabled, IsTabled, last_of}
 use Rattle.hall_table.specs.Values.{values}
 use Rattle.nil_pres.specs.Presented.{Presented, IsPresented}
 use Rattle.nil_pres.specs.Relations.{relations_of}
@@ -19,32 +19,32 @@ use Rattle.group_eval.specs.declared.reply.Reply.TheVariants as reply_kind
 use Rattle.group_eval.specs.Queries.{answered, IsWide}
 use Rattle.group_eval.specs.Right.{IsRightReply}
 use Rattle.group_eval.specs.Laws.{OfChecked, AnsweredIs}
-use Rattle.query_session.specs.Pieces.{as_line}
+use Rattle.session_io.specs.Lines.{as_line}
 use Rattle.query_session.specs.Limits.{line_limit}
-use Rattle.query_session.specs.Replies.{line_of, reply_to, reply, replies}
-use Rattle.query_session.specs.Right.{IsQuery, IsReply, long, faulty, wide, right, AreReplies}
+use Rattle.query_session.specs.Replies.{line_of, reply_to, reply}
+use Rattle.query_session.specs.Right.{IsQuery, IsReply, long, faulty, wide, right}
 
-module _ (p : Presented)
-    (reads : (line : List ℕ) (q : Query) → ReadsAs p.names line q ↔ (reading p.names line ≡ Ok q))
+module _ (c : Paired)
+    (reads : (line : List ℕ) (q : Query) → ReadsAs c.pres.names line q ↔ (reading c.pres.names line ≡ Ok q))
     (fails : (line : List ℕ) (f : QueryFault)
-    → FailsWith p.names line f ↔ (reading p.names line ≡ Err f))
-    (shaped : (line : List ℕ) (q : Query) → ReadsAs p.names line q → IsShapedQuery (length p.names) q)
-    (rightly : (q : Query) → IsShapedQuery (length p.names) q → (IsWide (central_table p) q → ⊥)
-    → IsRightReply (relations_of p) q (answered (central_table p) q)) where
-  module _ (line : List ℕ) (q : Query) (h : IsQuery p line q) where
-    not_wide : (r : Reply) → answered (central_table p) q ≡ r → (r ≡ reply_kind.Wide → ⊥)
-        → IsReply p line (line_of r)
+    → FailsWith c.pres.names line f ↔ (reading c.pres.names line ≡ Err f))
+    (shaped : (line : List ℕ) (q : Query) → ReadsAs c.pres.names line q → IsShapedQuery (length c.pres.names) q)
+    (rightly : (q : Query) → IsShapedQuery (length c.pres.names) q → (IsWide c.table q → ⊥)
+    → IsRightReply (relations_of c.pres) q (answered c.table q)) where
+  module _ (line : List ℕ) (q : Query) (h : IsQuery c.pres line q) where
+    not_wide : (r : Reply) → answered c.table q ≡ r → (r ≡ reply_kind.Wide → ⊥)
+        → IsReply c line (line_of r)
     not_wide r e other =
-        let narrow : IsWide (central_table p) q → ⊥ =
+        let narrow : IsWide c.table q → ⊥ =
         λ w. let same : r ≡ reply_kind.Wide = cc in other same in
         right q r h narrow
-        (subst (IsRightReply (relations_of p) q) e
+        (subst (IsRightReply (relations_of c.pres) q) e
         (rightly q (shaped (strip_carriage_return line) q h.reads) narrow))
 
-    IsReply-answered : IsReply p line (line_of (answered (central_table p) q))
-    IsReply-answered = at (answered (central_table p) q) refl
+    IsReply-answered : IsReply c line (line_of (answered c.table q))
+    IsReply-answered = at (answered c.table q) refl
       where
-        at : (r : Reply) → answered (central_table p) q ≡ r → IsReply p line (line_of r)
+        at : (r : Reply) → answered c.table q ≡ r → IsReply c line (line_of r)
         at reply_kind.Wide e = wide q h e
         at (reply_kind.Vector v) e = not_wide (reply_kind.Vector v) e (λ same. cc)
         at reply_kind.Yes e = not_wide reply_kind.Yes e (λ same. cc)
@@ -52,46 +52,62 @@ module _ (p : Presented)
         at reply_kind.Nothing e = not_wide reply_kind.Nothing e (λ same. cc)
 
   IsReply-reply_to : (line : List ℕ) → length line ≤ line_limit
-      → IsReply p line (reply_to p (reading p.names (strip_carriage_return line)))
-  IsReply-reply_to line within = at (reading p.names (strip_carriage_return line)) refl
+      → IsReply c line (reply_to c (reading c.pres.names (strip_carriage_return line)))
+  IsReply-reply_to line within = at (reading c.pres.names (strip_carriage_return line)) refl
     where
-      at : (found : Result Query QueryFault) → reading p.names (strip_carriage_return line) ≡ found
-          → IsReply p line (reply_to p found)
+      at : (found : Result Query QueryFault) → reading c.pres.names (strip_carriage_return line) ≡ found
+          → IsReply c line (reply_to c found)
       at (Ok q) e =
           IsReply-answered line q
           (record { within = within; reads = (reads (strip_carriage_return line) q).1 e })
       at (Err f) e =
           faulty f (record { within = within; fails = (fails (strip_carriage_return line) f).1 e })
 
-  IsReply-reply : (line : List ℕ) → IsReply p line (reply p line)
+  IsReply-reply : (line : List ℕ) → IsReply c line (reply c line)
   IsReply-reply line = at (nat_lt line_limit (length line)) refl
     where
       at : (b : Bool) → nat_lt line_limit (length line) ≡ b
-          → IsReply p line
+          → IsReply c line
           (cond b (as_line (codes "long"))
-          (reply_to p (reading p.names (strip_carriage_return line))))
+          (reply_to c (reading c.pres.names (strip_carriage_return line))))
       at true e = long (ltb-true line_limit (length line) e)
       at false e = IsReply-reply_to line (ltb-false line_limit (length line) e)
 
-  AreReplies-replies : (lines : List (List ℕ)) → AreReplies p lines (replies p lines)
-  AreReplies-replies [] = refl
-  AreReplies-replies (line ∷ lines) =
-      (reply p line, replies p lines, IsReply-reply line, AreReplies-replies lines, refl)
+-- by the law of replies
+pub IsReply-checked : OfChecked AnsweredIs → (c : Paired)
+    → ((line : List ℕ) (q : Query) → ReadsAs c.pres.names line q ↔ (reading c.pres.names line ≡ Ok q))
+    → ((line : List ℕ) (f : QueryFault)
+    → FailsWith c.pres.names line f ↔ (reading c.pres.names line ≡ Err f))
+    → ((line : List ℕ) (q : Query) → ReadsAs c.pres.names line q
+    → IsShapedQuery (length c.pres.names) q)
+    → (line : List ℕ) → IsPresented c.pres → IsTabled c.table → IsChecked c → c.table.level ≡ 1
+    → IsReply c line (reply c line)
+IsReply-checked answers c reads fails shaped line presented tabled checked level =
+    IsReply-reply c reads fails shaped
+    (λ q shape narrow. answers c presented tabled checked q level shape narrow) line
 
--- by the law of replies at the table of a central presentation
-pub right-replies : OfChecked AnsweredIs
+abbrev central : Presented → Paired
+central p = record { pres = p; table = central_table p }
+
+pub IsReply-central : OfChecked AnsweredIs
     → ((q : Presented) → IsPresented q → IsTabled (central_table q))
     → ((q : Presented) → last_of (central_table q) ≡ length q.names)
     → ((q : Presented) → IsPresented q → not_central q ≡ None
     → IsTable (relations_of q) 1 (values (central_table q)))
-    → (p : Presented)
-    → ((line : List ℕ) (q : Query) → ReadsAs p.names line q ↔ (reading p.names line ≡ Ok q))
-    → ((line : List ℕ) (f : QueryFault) → FailsWith p.names line f ↔ (reading p.names line ≡ Err f))
-    → ((line : List ℕ) (q : Query) → ReadsAs p.names line q → IsShapedQuery (length p.names) q)
-    → (lines : List (List ℕ)) → IsPresented p → not_central p ≡ None
-    → AreReplies p lines (replies p lines)
-right-replies answers tabled last multiplies p reads fails shaped lines h none =
-    let c : Paired = record { pres = p; table = central_table p } in
-    let checked : IsChecked c = record { last = last p; multiplies = multiplies p h none } in
-    AreReplies-replies p reads fails shaped
-    (λ q shape narrow. answers c h (tabled p h) checked q refl shape narrow) lines
+    → (c : Paired)
+    → ((line : List ℕ) (q : Query) → ReadsAs c.pres.names line q ↔ (reading c.pres.names line ≡ Ok q))
+    → ((line : List ℕ) (f : QueryFault)
+    → FailsWith c.pres.names line f ↔ (reading c.pres.names line ≡ Err f))
+    → ((line : List ℕ) (q : Query) → ReadsAs c.pres.names line q
+    → IsShapedQuery (length c.pres.names) q)
+    → (line : List ℕ) → IsPresented c.pres → not_central c.pres ≡ None
+    → c.table ≡ central_table c.pres → IsReply c line (reply c line)
+IsReply-central answers tabled last multiplies c reads fails shaped line presented none e =
+    let right : IsReply (central c.pres) line (reply (central c.pres) line) =
+    IsReply-checked answers (central c.pres) reads fails shaped line presented
+    (tabled c.pres presented)
+    (record { last = last c.pres; multiplies = multiplies c.pres presented none }) refl in
+    let P : Tabled → Type 0 =
+    λ t. IsReply (record { pres = c.pres; table = t }) line
+    (reply (record { pres = c.pres; table = t }) line) in
+    subst P (sym e) right

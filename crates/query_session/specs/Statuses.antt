@@ -1,13 +1,23 @@
--- The numbers and the texts of statuses.
---   number_of status          the number that the program ends with
---   kind_text kind            the kind of a fault of a file, in lower-case letters
---   bad_file_text line kind   the place and the kind of a file's first fault
---   text_of status            the line that a status writes, without its line feed; nothing more where
---                             it is Done, WriteFault or Memory
-use Rattle.std.specs.Prelude.{ℕ, List, [], ◌++◌, codes}
-use Rattle.std.specs.Fmt.{decimal}
-use Rattle.pres_text.specs.declared.file_kind.FileKind.{FileKind}
-use Rattle.pres_text.specs.declared.file_kind.FileKind.TheVariants as k
+-- The numbers and the texts of statuses, and where they come from.
+--   number_of status         the number that the program ends with
+--   text_of names status     the lines that a status writes over a presentation with these names;
+--                            none where it is Done, WriteFault or Memory
+--   end_status e             the status of an end of the source
+--   stop_status s            the status of a stop
+--   outcome_status r         the status of either
+--   file_status e            the status of a file that wasn't read
+--   Ended text status .. r   the text was written and r is the status, or writing stopped
+use Rattle.std.specs.Prelude.{ℕ, List, [], ◌∷◌, codes, Option, Result, Ok, Err}
+use Rattle.std.specs.Io.KnownBytes.{Appends}
+use Rattle.pres_text.specs.FaultTexts.{file_fault_text}
+use Rattle.nil_io.specs.declared.shelf_fault.ShelfFault.{ShelfFault}
+use Rattle.nil_io.specs.declared.shelf_fault.ShelfFault.TheVariants as shelf
+use Rattle.session_io.specs.declared.end.End.{End}
+use Rattle.session_io.specs.declared.end.End.TheVariants as end
+use Rattle.session_io.specs.declared.stop.Stop.{Stop}
+use Rattle.session_io.specs.declared.stop.Stop.TheVariants as stop
+use Rattle.session_io.specs.Answers.{end_text}
+use Rattle.session_io.specs.Stops.{IsStopped}
 use Rattle.query_session.specs.declared.status.Status.{Status}
 use Rattle.query_session.specs.declared.status.Status.TheVariants as s
 
@@ -21,28 +31,35 @@ number_of s.Memory = 8
 number_of s.LongInput = 10
 number_of (s.NotCentral j i) = 12
 
-abbrev pub kind_text : FileKind → List ℕ
-kind_text k.Header = codes "header"
-kind_text k.Name = codes "name"
-kind_text k.TwiceName = codes "twicename"
-kind_text k.Relation = codes "relation"
-kind_text k.Order = codes "order"
-kind_text k.Twice = codes "twice"
-kind_text k.Above = codes "above"
-kind_text k.Number = codes "number"
-kind_text k.Zero = codes "zero"
-kind_text k.TooMany = codes "toomany"
-kind_text k.NotText = codes "nottext"
+abbrev pub text_of : List (List ℕ) → Status → List (List ℕ)
+text_of names s.Done = []
+text_of names (s.Usage kind) = codes "usage" ∷ []
+text_of names (s.BadFile line kind) = file_fault_text line kind ∷ []
+text_of names s.ReadFault = end_text end.Failed
+text_of names s.WriteFault = []
+text_of names s.Memory = []
+text_of names s.LongInput = end_text end.Long
+text_of names (s.NotCentral j i) = codes "not central" ∷ []
 
-abbrev pub bad_file_text : ℕ → FileKind → List ℕ
-bad_file_text line kind = codes "file " ++ decimal line ++ codes " " ++ kind_text kind
+abbrev pub end_status : End → Status
+end_status end.Finished = s.Done
+end_status end.Failed = s.ReadFault
+end_status end.Long = s.LongInput
 
-abbrev pub text_of : Status → List ℕ
-text_of s.Done = []
-text_of (s.Usage kind) = codes "usage"
-text_of (s.BadFile line kind) = bad_file_text line kind
-text_of s.ReadFault = codes "read fault"
-text_of s.WriteFault = []
-text_of s.Memory = []
-text_of s.LongInput = codes "long input"
-text_of (s.NotCentral j i) = codes "not central"
+abbrev pub stop_status : Stop → Status
+stop_status stop.Failed = s.WriteFault
+stop_status stop.Memory = s.Memory
+
+abbrev pub outcome_status : Result End Stop → Status
+outcome_status (Ok e) = end_status e
+outcome_status (Err s) = stop_status s
+
+abbrev pub file_status : ShelfFault → Status
+file_status shelf.Failed = s.ReadFault
+file_status shelf.Long = s.LongInput
+file_status shelf.Memory = s.Memory
+
+pub data Ended (text : List ℕ) (status : Status) (old new : Option (List ℕ)) : Status → Type 0 where
+  ended : Appends old new text → Ended text status old new status
+  stopped : (stop : Stop) → IsStopped text old new stop
+      → Ended text status old new (stop_status stop)

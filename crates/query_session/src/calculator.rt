@@ -1,19 +1,20 @@
 //! The calculator of a session.
 
-ghost use Rattle.std.specs.Prelude.{◌≡◌, length, None, IfOk};
+ghost use Rattle.std.specs.Prelude.{◌≡◌, length, IfOk};
 ghost use Rattle.nil_word.specs.Queries.{IsShapedQuery};
-ghost use Rattle.central_table.specs.Central.{central_table, not_central};
 ghost use Rattle.group_eval.specs.Queries.{answered};
 
-use central_table::central_checked;
+use super::replies::reply_to;
 use group_eval::{Reply, Workspace, answer};
 use hall_table::Checked;
 use nil_pres::Presentation;
 use nil_word::Query;
+use session_io::Replier;
 use std::alloc::{AllocError, Global};
 use std::marker::Model;
 
-/// A central presentation with its table, and room for evaluation. Contracts see the presentation.
+/// A presentation with a table of level 1 that multiplies in it, and room for evaluation. Contracts
+/// see the presentation and the table.
 #[derive(Drop)]
 pub(crate) struct Calculator {
     checked: Checked,
@@ -22,40 +23,47 @@ pub(crate) struct Calculator {
 
 impl Model for Calculator {
     ghost use Rattle.std.specs.Prelude.{◌≡◌};
-    ghost use Rattle.nil_pres.specs.Presented.{Presented};
-    ghost use Rattle.central_table.specs.Central.{central_table};
+    ghost use Rattle.hall_table.specs.Multiplies.{Paired};
     ghost use Rattle.group_eval.specs.Space.{IsSpaceOf};
 
-    ghost Value = { Presented };
+    ghost Value = { Paired };
 
-    ghost view = { λ c. c.checked.pres };
+    ghost view = { λ c. c.checked };
 
-    ghost invariant = { λ c. IsSpaceOf c.ws c.checked
-        × (c.checked.table ≡ central_table c.checked.pres) };
+    ghost invariant = { λ c. IsSpaceOf c.ws c.checked × (c.checked.table.level ≡ 1) };
+}
+
+impl Replier for Calculator {
+    ghost use Rattle.query_session.specs.Replies.{reply};
+
+    ghost reply = { λ c. reply c };
+
+    fn reply_to(&mut self, alloc: Global, line: &[u8]) -> Result<String, AllocError> {
+        reply_to(alloc, self, line)
+    }
 }
 
 impl Calculator {
-    /// The calculator of a central presentation.
-    pub fn of(alloc: Global, pres: Presentation) -> Result<Calculator, AllocError>
-        requires central { not_central pres ≡ None }
-        ensures { IfOk result (λ c. c ≡ pres) }
+    /// The calculator of a table of level 1.
+    pub fn of(alloc: Global, checked: Checked) -> Result<Calculator, AllocError>
+        requires level { checked.table.level ≡ 1 }
+        ensures { IfOk result (λ c. c ≡ checked) }
     {
-        let checked = central_checked(alloc, pres)?;
         let ws = Workspace::reserve(alloc, &checked)?;
         Ok(Calculator { checked, ws })
     }
 
     /// The presentation.
     pub fn pres(&self) -> &Presentation
-        ensures { result.now ≡ self.now }
+        ensures { result.now ≡ self.now.pres }
     {
         self.checked.pres()
     }
 
     /// The reply to a query.
     pub fn answer(&mut self, alloc: Global, query: &Query) -> Result<Reply, AllocError>
-        requires shaped { IsShapedQuery (length self.old.names) query.now }
-        ensures reply { IfOk result (λ reply. reply ≡ answered (central_table self.old) query.now) }
+        requires shaped { IsShapedQuery (length self.old.pres.names) query.now }
+        ensures reply { IfOk result (λ reply. reply ≡ answered self.old.table query.now) }
         ensures same { self.new ≡ self.old }
     {
         answer(alloc, &mut self.ws, &self.checked, query)

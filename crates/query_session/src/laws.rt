@@ -1,4 +1,4 @@
-//! What is known of sessions over central presentations.
+//! What is known of sessions.
 
 ghost use Rattle.std.specs.Prelude.{◌≡◌, ◌⊎◌, ◌↔◌, ℕ, List, None};
 ghost use Rattle.std.specs.declared.option.Option.{Option};
@@ -8,14 +8,17 @@ ghost use Rattle.nil_word.specs.Congruence.{Congruent, IsConsistent};
 ghost use Rattle.nil_word.specs.Expressions.{unrolled};
 ghost use Rattle.nil_pres.specs.Presented.{Presented, IsPresented};
 ghost use Rattle.nil_pres.specs.Relations.{relations_of};
+ghost use Rattle.hall_table.specs.Tabled.{IsTabled};
+ghost use Rattle.hall_table.specs.Multiplies.{Paired, IsChecked};
 ghost use Rattle.central_table.specs.Central.{central_table, not_central};
 ghost use Rattle.group_eval.specs.Queries.{IsWide};
+ghost use Rattle.session_io.specs.Asked.{Asked, Fed};
 ghost use Rattle.query_session.specs.declared.status.Status.{Status};
 ghost use Rattle.query_session.specs.declared.status.Status.TheVariants as s;
-ghost use Rattle.query_session.specs.Replies.{replies};
-ghost use Rattle.query_session.specs.Right.{IsQuery, IsReply, AreReplies};
-ghost use Rattle.query_session.specs.Outside.{Asked, Fed, IsSmooth};
-ghost use Rattle.query_session.specs.Runs.{IsRun};
+ghost use Rattle.query_session.specs.Replies.{reply};
+ghost use Rattle.query_session.specs.Right.{IsQuery, IsReply};
+ghost use Rattle.query_session.specs.Commands.{IsSession};
+ghost use Rattle.query_session.specs.Smooth.{IsSmooth};
 
 use central_table::laws::central_tables;
 use hall_law::laws::uniqueness;
@@ -34,36 +37,39 @@ pub fn consistent()
     uniqueness();
 }
 
-/// Over a central presentation the replies that are computed are the right ones.
+/// By a table of level 1 that multiplies in its presentation the reply that is computed is the
+/// right one. A central presentation has such a table.
 pub fn right_replies()
-    ensures { (p : Presented) (lines : List (List ℕ)) → IsPresented p → not_central p ≡ None
-        → AreReplies p lines (replies p lines) }
+    ensures checked { (c : Paired) (line : List ℕ) → IsPresented c.pres → IsTabled c.table
+        → IsChecked c → c.table.level ≡ 1 → IsReply c line (reply c line) }
+    ensures central { (c : Paired) (line : List ℕ) → IsPresented c.pres → not_central c.pres ≡ None
+        → c.table ≡ central_table c.pres → IsReply c line (reply c line) }
 {
     readings();
     central_tables();
     group_eval::laws::replies();
 }
 
-/// Two lines that ask for vectors, neither of them wide, get equal replies exactly if the relations
-/// make their words equal.
+/// Two lines that ask for elements, neither of them wide, get equal replies exactly if the
+/// relations make their words equal.
 pub fn equal_replies()
-    ensures { (p : Presented) (line line' text text' : List ℕ) (e e' : Expr)
-        → IsQuery p line (query.Value e) → (IsWide (central_table p) (query.Value e) → ⊥)
-        → IsReply p line text
-        → IsQuery p line' (query.Value e') → (IsWide (central_table p) (query.Value e') → ⊥)
-        → IsReply p line' text'
-        → (text ≡ text') ↔ Congruent (relations_of p) 1 (unrolled e) (unrolled e') }
+    ensures { (c : Paired) (line line' text text' : List ℕ) (e e' : Expr)
+        → IsQuery c.pres line (query.Value e) → (IsWide c.table (query.Value e) → ⊥)
+        → IsReply c line text
+        → IsQuery c.pres line' (query.Value e') → (IsWide c.table (query.Value e') → ⊥)
+        → IsReply c line' text'
+        → (text ≡ text') ↔ Congruent (relations_of c.pres) 1 (unrolled e) (unrolled e') }
 {
     readings();
     congruence();
 }
 
-/// A session that meets no fault answers all of a known file and known queries within their limits, or
-/// memory is wanting.
+/// A session that meets no fault answers all of a known file and known queries within their limits,
+/// or memory is wanting.
 pub fn complete_runs()
-    ensures { (a : Asked) (f : Fed) (p : Presented) (status : Status) (old new : Option (List ℕ))
-        → IsRun a f status old new → IsSmooth a f p → (status ≡ s.WriteFault → ⊥)
-        → (status ≡ s.Done) ⊎ (status ≡ s.Memory) }
+    ensures { (limit : ℕ) (a : Asked) (f : Fed) (p : Presented) (status : Status)
+        (old new : Option (List ℕ)) → IsSession limit a f status old new → IsSmooth limit a f p
+        → (status ≡ s.WriteFault → ⊥) → (status ≡ s.Done) ⊎ (status ≡ s.Memory) }
 {
     files();
 }

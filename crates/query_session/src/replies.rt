@@ -1,16 +1,15 @@
 //! The texts of replies.
 
-ghost use Rattle.std.specs.Prelude.{◌≡◌, ◌++◌, string_bytes, IfOk, OnOk};
-ghost use Rattle.std.specs.Fmt.{decimal};
+ghost use Rattle.std.specs.Prelude.{◌≡◌, string_bytes, IfOk};
 ghost use Rattle.std.specs.Str.Lines.{strip_carriage_return};
-ghost use Rattle.word_text.specs.declared.query_fault.QueryFault.{QueryFault};
-ghost use Rattle.query_session.specs.Pieces.{as_line};
-ghost use Rattle.query_session.specs.Replies.{fault_text, line_of, reply};
+ghost use Rattle.word_text.specs.FaultTexts.{fault_text};
+ghost use Rattle.session_io.specs.Lines.{as_line};
+ghost use Rattle.query_session.specs.Replies.{line_of, reply};
 
 use super::calculator::Calculator;
+use super::limits::LINE_LIMIT;
 use group_eval::Reply;
 use std::alloc::{AllocError, Global};
-use std::fmt::Write;
 use word_text::laws::readings;
 use word_text::{QueryFault, read_query, vector_text};
 
@@ -24,7 +23,7 @@ pub(crate) fn reply_to(
     ensures same { calculator.new ≡ calculator.old }
 {
     readings();
-    if line.len() > 65536 {
+    if line.len() > LINE_LIMIT {
         return String::from_str(alloc, "long\n");
     }
     match read_query(alloc, calculator.pres(), without_return(line)) {
@@ -33,7 +32,7 @@ pub(crate) fn reply_to(
             reply_line(alloc, &reply)
         }
         Err(QueryFault::Memory) => Err(AllocError),
-        Err(fault) => fault_line(alloc, fault),
+        Err(fault) => fault_line(alloc, &fault),
     }
 }
 
@@ -65,30 +64,10 @@ fn reply_line(alloc: Global, reply: &Reply) -> Result<String, AllocError>
 }
 
 /// The first fault of a line as a line. There is none where memory was wanting.
-fn fault_line(alloc: Global, fault: QueryFault) -> Result<String, AllocError>
-    ensures { IfOk result (λ text. string_bytes text ≡ as_line (fault_text fault)) }
+fn fault_line(alloc: Global, fault: &QueryFault) -> Result<String, AllocError>
+    ensures { IfOk result (λ text. string_bytes text ≡ as_line (fault_text fault.now)) }
 {
-    match fault {
-        QueryFault::Syntax(place) => placed(alloc, "syntax ", place),
-        QueryFault::Unknown(place) => placed(alloc, "unknown ", place),
-        QueryFault::Number(place) => placed(alloc, "number ", place),
-        QueryFault::Deep(place) => placed(alloc, "deep ", place),
-        QueryFault::Memory => String::from_str(alloc, "\n"),
-    }
-}
-
-/// A kind and a place as a line.
-fn placed(alloc: Global, kind: &str, place: usize) -> Result<String, AllocError>
-    ensures { IfOk result (λ text. string_bytes text ≡ as_line (kind.now ++ decimal place)) }
-{
-    let mut text = String::from_str(alloc, kind)?;
-    push_place(&mut text, place)?;
+    let mut text = fault.text(alloc)?;
     text.push_str("\n")?;
     Ok(text)
-}
-
-fn push_place(text: &mut String, place: usize) -> Result<(), AllocError>
-    ensures { OnOk result (string_bytes text.new ≡ string_bytes text.old ++ decimal place) }
-{
-    write!(text, "{place}")
 }

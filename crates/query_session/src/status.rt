@@ -4,10 +4,11 @@ ghost use Rattle.std.specs.Prelude.{◌≡◌};
 ghost use Rattle.query_session.specs.Statuses.{number_of};
 
 use super::usage_kind::UsageKind;
+use nil_io::ShelfFault;
 use pres_text::FileKind;
 
 /// How a session ends.
-#[derive(Clone, Copy, Debug, PartialEq, Eq)]
+#[derive(Debug, PartialEq, Eq, Drop)]
 pub enum Status {
     /// All was answered and written.
     Done,
@@ -41,6 +42,20 @@ impl Status {
             Status::Memory => 8,
             Status::LongInput => 10,
             Status::NotCentral { .. } => 12,
+        }
+    }
+}
+
+impl From<ShelfFault> for Status {
+    ghost use Rattle.query_session.specs.Statuses.{file_status};
+
+    ghost from_gives = { λ fault status. status ≡ file_status fault };
+
+    fn from(fault: ShelfFault) -> Status {
+        match fault {
+            ShelfFault::Failed => Status::ReadFault,
+            ShelfFault::Long => Status::LongInput,
+            ShelfFault::Memory => Status::Memory,
         }
     }
 }

@@ -1,4 +1,4 @@
-//! A shelf and a source of the tests' own, and the sure forms.
+//! A shelf and sources of the tests' own, and the infallible implementations.
 
 ghost use Rattle.std.specs.Prelude.{ℕ, List, None};
 ghost use Rattle.std.specs.declared.option.Option.{Option};
@@ -6,7 +6,7 @@ ghost use Rattle.std.specs.declared.option.Option.{Option};
 use super::fixtures::{HEISENBERG, shelf_of, source_of, words_of};
 use nil_io::{Failed, MemorySink, Shelf, ShelfFault, Source, SureShelf, SureSink, SureSource};
 use query_session::{Status, session};
-use std::alloc::Global;
+use std::alloc::{AllocError, Global};
 use std::test::Fail;
 
 /// A shelf that finds no memory for any file. It tells nothing.
@@ -65,21 +65,64 @@ impl Source for Endless {
     }
 }
 
+/// A source of so many letters `a`. It tells nothing.
+#[derive(Drop)]
+struct Letters {
+    left: u64,
+    given: u64,
+}
+
+impl Source for Letters {
+    ghost left = { λ _. None };
+
+    ghost faults = { λ _. 0 };
+
+    ghost given = { λ s. s.given };
+
+    fn read(&mut self, buf: &mut [u8]) -> Result<usize, Failed> {
+        let count = self.left.min(buf.len() as u64) as usize;
+        buf[..count].fill(b'a');
+        self.left -= count as u64;
+        self.given = self.given.saturating_add(count as u64);
+        Ok(count)
+    }
+}
+
+/// The status' number and the output of a session over a source.
+fn over<S: Source>(alloc: Global, source: &mut S) -> Result<(u8, Vec<u8>), AllocError> {
+    let words = words_of(alloc, &["run", "f"])?;
+    let mut shelf = shelf_of(alloc, HEISENBERG.as_bytes(), &[])?;
+    let room = Vec::with_capacity(alloc, 64)?;
+    let mut sink = MemorySink::new(room, Vec::new(alloc));
+    let status = session(alloc, &words, &mut shelf, source, &mut sink);
+    Ok((status.number(), sink.bytes().to_vec(alloc)?))
+}
+
+const COUNTS: [(u64, &str, u8); 2] = [(16777216, "long\n", 0), (16777217, "long input\n", 10)];
+
 #[test]
-fn a_source_without_an_end_is_long_input(rt: HostRuntime) -> Result<(), Fail> {
-    let words = words_of(rt.alloc(), &["run", "f"])?;
-    let mut shelf = shelf_of(rt.alloc(), HEISENBERG.as_bytes(), &[])?;
-    let mut source = Endless { given: 0 };
-    let room = Vec::with_capacity(rt.alloc(), 64)?;
-    let mut sink = MemorySink::new(room, Vec::new(rt.alloc()));
-    let status = session(rt.alloc(), &words, &mut shelf, &mut source, &mut sink);
-    assert_eq!(rt; status, Status::LongInput);
-    assert_eq!(rt; sink.bytes(), b"0 0 1\nlong input\n".as_slice());
+fn queries_of_the_limit_are_answered_and_more_are_long_input(rt: HostRuntime) -> Result<(), Fail> {
+    for (left, output, number) in COUNTS {
+        let mut source = Letters { left, given: 0 };
+        let ended = over(rt.alloc(), &mut source)?;
+        assert_eq!(rt; ended.0, number);
+        assert_eq!(rt; ended.1.as_slice(), output.as_bytes());
+        assert!(rt; source.given <= 16777216 + 4096);
+    }
     Ok(())
 }
 
 #[test]
-fn a_session_over_forms_that_never_fail_is_done(rt: HostRuntime) -> Result<(), Fail> {
+fn a_source_without_an_end_is_long_input(rt: HostRuntime) -> Result<(), Fail> {
+    let mut source = Endless { given: 0 };
+    let ended = over(rt.alloc(), &mut source)?;
+    assert_eq!(rt; ended.0, 10);
+    assert_eq!(rt; ended.1.as_slice(), b"0 0 1\nlong input\n".as_slice());
+    Ok(())
+}
+
+#[test]
+fn a_session_over_infallible_implementations_is_done(rt: HostRuntime) -> Result<(), Fail> {
     let alloc = rt.alloc();
     let words = words_of(alloc, &["run", "f"])?;
     let mut files = Vec::new(alloc);

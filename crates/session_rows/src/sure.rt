@@ -1,4 +1,4 @@
-//! Sessions over forms that never fail.
+//! Sessions over infallible implementations of the outside.
 
 ghost use Rattle.std.specs.Prelude.{◌≡◌, ◌≤◌, ◌⊎◌, ℕ, List, Some, None, length};
 ghost use Rattle.nil_io.specs.Files.{contents_or_empty};
@@ -6,14 +6,15 @@ ghost use Rattle.nil_pres.specs.Presented.{Presented};
 ghost use Rattle.pres_text.specs.File.{IsFile};
 ghost use Rattle.central_table.specs.Central.{not_central};
 ghost use Rattle.query_session.specs.Limits.{file_limit, query_limit};
-ghost use Rattle.query_session.specs.Outside.{texts, run_name};
+ghost use Rattle.session_io.specs.Asked.{texts};
+ghost use Rattle.query_session.specs.Commands.{command_of, run};
 
 use nil_io::{SureShelf, SureSink, SureSource};
 use query_session::{Status, Words, session};
 use std::alloc::Global;
 
-/// A session over forms that never fail answers all queries over a central presentation, with the file
-/// and the queries within their limits, or memory is wanting.
+/// A session over infallible implementations answers all queries over a central presentation, with
+/// the file and the queries within their limits, or memory is wanting.
 pub fn sure_session(
     alloc: Global,
     words: &Words,
@@ -21,7 +22,7 @@ pub fn sure_session(
     queries: &mut SureSource,
     out: &mut SureSink,
 ) -> Status
-    ensures { (p : Presented) (name : List ℕ) → run_name (texts words.now.items) ≡ Some name
+    ensures { (p : Presented) (name : List ℕ) → command_of (texts words.now.items) ≡ Some (run name)
         → IsFile p (contents_or_empty shelf.old.files name)
         → length (contents_or_empty shelf.old.files name) ≤ file_limit
         → not_central p ≡ None → length queries.old.left ≤ query_limit

@@ -1,11 +1,13 @@
 use Rattle.std.proofs.Common.{[], refl, inl}
-use Rattle.query_session.specs.Pieces.{as_line}
+use Rattle.std.proofs.lemmas.Result.{err_from_is_err_and}
+use Rattle.session_io.specs.Lines.{as_lines}
+use Rattle.session_io.specs.Stops.{short}
+use Rattle.session_io.proofs.Appending.{Appends-none}
 use Rattle.query_session.specs.Statuses.{text_of}
-use Rattle.query_session.specs.Writing.{short}
-use Rattle.query_session.proofs.Appending.{Appends-none}
 use Rattle.query_session.proofs.saying.say.Goals as goal
 
-pub returns-in_default-clause-err : goal.returns-in_default-clause-err
-returns-in_default-clause-err g c =
-    short [] (as_line (text_of c.args.status)) refl (Appends-none (g.K.Sink.written c.args.out.now))
-    (inl refl)
+pub returns-in_err-line-clause-err : goal.returns-in_err-line-clause-err
+returns-in_err-line-clause-err g c =
+    let p = err_from_is_err_and c.from_residual.result c.from_residual.ensures.1 in
+    rw (p.1, p.2) (short [] (as_lines (text_of [] c.args.status.now)) refl
+    (Appends-none (g.K.Sink.written c.args.out.now)) (inl refl))

@@ -1,4 +1,4 @@
--- No count of these forms ever rises.
+-- No count of these ever rises.
 use Rattle.std.proofs.Common.{◌≡◌, ◌≤◌, arith, refl}
 use Rattle.nil_io.specs.Causes.{Rose}
 use Rattle.session_rows.proofs.sure.sure_session.Goals as goal
@@ -7,10 +7,10 @@ still : Rose 0 0 → ⊥
 still h = omega (arith, h)
 
 pub returns : goal.returns
-returns c = λ p name named is_file within central few.
+returns c = λ p name command is_file within central few.
     c.session.ensures.complete p record {
-      name = name;
-      named = named;
+      pres = name;
+      command = command;
       file = _;
       known = refl;
       is_file = is_file;

@@ -1,8 +1,0 @@
-use Rattle.std.proofs.Common.{sym, inr}
-use Rattle.query_session.specs.Runs.{outside}
-use Rattle.query_session.proofs.opening.read_central.Goals as goal
-
-pub returns-in-Some-clause-refused : goal.returns-in-Some-clause-refused
-returns-in-Some-clause-refused c =
-    inr (outside c.in-Ok.pres c.in-Some.pair.1 c.in-Some.pair.0 c.in-Ok.ensures.read
-    (sym c.in-Some.ensures))

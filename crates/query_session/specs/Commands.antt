@@ -1,0 +1,37 @@
+-- The commands, by their words.
+--   Command                  what is to be done
+--   command_of words         the command that the words ask for; none where they fit no form
+--   IsUsage f s out          the words are refused, and the source is untouched
+--   IsSessionOf command limit a f ..   the session of a command, or of none
+--   IsSession limit a f ..   the session of the words, with a limit of query bytes
+-- a what is asked for · f what is fed · s status
+use Rattle.std.specs.Prelude.{◌≡◌, ℕ, List, [], Option, Some, None, option_map}
+use Rattle.session_io.specs.Asked.{Asked, Fed, IsUntouched}
+use Rattle.session_io.specs.Lines.{as_lines}
+use Rattle.query_session.specs.declared.usage_kind.UsageKind.TheVariants as reason
+use Rattle.query_session.specs.declared.status.Status.{Status}
+use Rattle.query_session.specs.declared.status.Status.TheVariants as s
+use Rattle.query_session.specs.Statuses.{text_of}
+use Rattle.query_session.specs.Runs.{IsRun}
+use Rattle.query_session.specs.Run.{run_name, IsRunOf}
+
+pub data Command : Type 0 where
+  run : (pres : List ℕ) → Command
+
+abbrev pub command_of : List (List ℕ) → Option Command
+command_of words = option_map run (run_name words)
+
+pub record IsUsage (f : Fed) (status : Status) (out : List ℕ) : Type 0 where
+  pub is : status ≡ s.Usage reason.Words
+  pub text : out ≡ as_lines (text_of [] (s.Usage reason.Words))
+  pub untouched : IsUntouched f
+
+abbrev pub IsSessionOf : Option Command → ℕ → Asked → Fed → Status → Option (List ℕ)
+    → Option (List ℕ) → Type 0
+IsSessionOf None limit a f =
+    IsRun (λ files taken more. IsUsage f)
+    (λ files taken more. IsUsage f (s.Usage reason.Words)) limit a f
+IsSessionOf (Some (run pres)) limit a f = IsRunOf pres limit a f
+
+abbrev pub IsSession : ℕ → Asked → Fed → Status → Option (List ℕ) → Option (List ℕ) → Type 0
+IsSession limit a f = IsSessionOf (command_of a.words) limit a f

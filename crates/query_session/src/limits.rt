@@ -1,0 +1,10 @@
+//! Limits of what is read.
+
+/// The greatest number of bytes of a presentation file.
+pub(crate) const FILE_LIMIT: u64 = 4194304;
+
+/// The greatest number of query bytes.
+pub(crate) const QUERY_LIMIT: u64 = 16777216;
+
+/// The greatest number of bytes of a query line.
+pub(crate) const LINE_LIMIT: usize = 65536;

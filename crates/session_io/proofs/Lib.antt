@@ -1,0 +1,7 @@
+pub mod Appending
+pub mod Finding
+pub mod Lines
+pub mod Stopping
+pub mod Answered
+pub mod Promising
+pub mod Weakening

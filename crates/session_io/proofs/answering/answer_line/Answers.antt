@@ -1,0 +1,11 @@
+use Rattle.std.proofs.Common.{[], refl, inl}
+use Rattle.std.proofs.lemmas.Result.{err_from_is_err_and}
+use Rattle.session_io.specs.Stops.{short}
+use Rattle.session_io.proofs.Appending.{Appends-none}
+use Rattle.session_io.proofs.answering.answer_line.Goals as goal
+
+pub returns-in_err-text-clause-err : goal.returns-in_err-text-clause-err
+returns-in_err-text-clause-err g c =
+    let p = err_from_is_err_and c.from_residual.result c.from_residual.ensures.1 in
+    rw (p.1, p.2) (short [] (g.T.Replier.reply c.args.replier.now c.args.line.now) refl
+    (Appends-none (g.K.Sink.written c.args.out.now)) (inl refl))

@@ -1,0 +1,18 @@
+//! What replies to lines.
+
+ghost use Rattle.std.specs.Prelude.{◌≡◌, ℕ, List, string_bytes, IfOk};
+ghost use Rattle.session_io.specs.Lines.{EndsAtLine};
+
+use std::alloc::{AllocError, Global};
+
+/// What replies to lines, to each of them by itself.
+pub trait Replier {
+    /// The reply to a line, with its line feed.
+    ghost reply: { Self → List ℕ → List ℕ };
+
+    /// The reply to a line, or want of memory. It is empty or ends with a line feed.
+    fn reply_to(&mut self, alloc: Global, line: &[u8]) -> Result<String, AllocError>
+        ensures text { IfOk result (λ text. string_bytes text ≡ reply self.old line.now) }
+        ensures at_line { IfOk result (λ text. EndsAtLine (string_bytes text)) }
+        ensures same { reply self.new ≡ reply self.old };
+}
