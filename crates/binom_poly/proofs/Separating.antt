@@ -16,7 +16,6 @@ use Rattle.binom_poly.specs.Polynomial.{value_of, IsPolynomial}
 use Rattle.binom_poly.specs.Weight.{weight}
 use Rattle.binom_poly.specs.Sums.{AllMonomials}
 use Rattle.binom_poly.specs.Collected.{with_term, put_term, collected, var_terms}
-use Rattle.binom_poly.specs.Difference as first
 use Rattle.binom_poly.specs.Totals.{coefficient_at}
 use Rattle.binom_poly.specs.Dependence.{DependsOnly, HasOnly, alone, IsTwoAnd}
 use Rattle.binom_poly.proofs.Unique.{unique_form, rest_is}
@@ -24,25 +23,9 @@ use Rattle.binom_poly.proofs.Variables.{variable_positive}
 use Rattle.binom_poly.proofs.Times.{value-append}
 use Rattle.binom_poly.proofs.Canonical.{all_monomials, value-var_terms, weight-polynomial, weight-rest}
 use Rattle.binom_poly.proofs.Collecting.{zero_or_not, value-collected, polynomial-collected}
-use Rattle.binom_poly.proofs.Coefficients.{coefficient_at-collected, abs-coefficient_at}
+use Rattle.binom_poly.proofs.Coefficients.{coefficient_at-collected}
 use Rattle.binom_poly.proofs.Depending.{has_only, only, masked, masked_there, masked_elsewhere, value-only, polynomial-only, all-only, only_kept, only_dropped}
 use Rattle.binom_poly.proofs.Standing.{variable_added}
-
--- ---- coefficients in unique form: that of the first term at a monomial is the sum of all
-no_magnitude : (z : ℤ) → unsigned_abs z ≡ 0 → z ≡ pos 0
-no_magnitude z h = omega (arith, ints)
-
-coefficient_at-first : (ms : List Part) (ts : List Term) → IsPolynomial ts → first.coefficient_at ms ts ≡ coefficient_at ms ts
-unfolding coefficient_at IsPolynomial
-coefficient_at-first ms [] h = refl
-coefficient_at-first ms (t ∷ ts) h =
-    elim (cases_Bool (same_parts ms t.monomial)) [
-      | inl e ↦
-          rw e (sym (+ℤ_idr t.coefficient)
-          ∙ ap (λ z. t.coefficient +ℤ z) (sym (ap (λ (ks : List Part). coefficient_at ks ts) ((same_parts_is ms t.monomial).0 e)
-          ∙ no_magnitude (coefficient_at t.monomial ts) (abs-coefficient_at t.monomial ts (rest_is t ts h) ∙ weight-rest t ts h))))
-      | inr e ↦ rw e (coefficient_at-first ms ts (rest_is t ts h) ∙ sym (+ℤ_idl (coefficient_at ms ts)))
-    ]
 
 -- ---- what holds of each contribution's monomial holds of each term's
 all-with_term : (P : List Part → Type 0) (ms : List Part) (c : ℤ) (ts : List Term) → P ms → All (λ t. P t.monomial) ts
@@ -210,7 +193,7 @@ two_and_tested test v w g p h n f m d e =
     let k : IsVariable v = variable_added test v w g p h n f d e in
     let l : IsVariable w = variable_added test w v g p h (λ s. n (sym s)) m d (λ a. turned (a v) (a w) (g a) (value_of a p) (e a)) in
     let s : p ≡ collected q = collected-two_and test v w g p h k l f m d e in
-    let t : (ms : List Part) → first.coefficient_at ms p ≡ coefficient_at ms q = λ ms. coefficient_at-first ms p h ∙ ap (coefficient_at ms) s ∙ coefficient_at-collected ms q in
+    let t : (ms : List Part) → coefficient_at ms p ≡ coefficient_at ms q = λ ms. ap (coefficient_at ms) s ∙ coefficient_at-collected ms q in
     record {
       first = t (alone v) ∙ coefficient_at-v test v w p h n f;
       second = t (alone w) ∙ coefficient_at-w test v w p h n m;

@@ -8,7 +8,7 @@
 use Rattle.std.specs.Prelude.{◌≡◌, ◌≢◌, ℕ, Bool, IsTrue, ℤ, pos, List, [], ◌∷◌, All}
 use Rattle.binom_poly.specs.declared.part.Part.{Part}
 use Rattle.binom_poly.specs.declared.term.Term.{Term}
-use Rattle.binom_poly.specs.Difference.{coefficient_at}
+use Rattle.binom_poly.specs.Totals.{coefficient_at}
 
 abbrev pub Agree : (ℕ → Bool) → (ℕ → ℤ) → (ℕ → ℤ) → Type 0
 Agree test a b = (v : ℕ) → IsTrue (test v) → a v ≡ b v

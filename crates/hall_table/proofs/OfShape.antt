@@ -17,10 +17,12 @@ use Rattle.binom_poly.specs.declared.part.Part.{Part}
 use Rattle.binom_poly.specs.declared.term.Term.{Term}
 use Rattle.binom_poly.specs.Monomial.{same_parts, same_parts_is}
 use Rattle.binom_poly.specs.Polynomial.{value_of, IsPolynomial}
-use Rattle.binom_poly.specs.Difference.{coefficient_at}
+use Rattle.binom_poly.specs.Totals.{coefficient_at}
 use Rattle.binom_poly.specs.Dependence.{DependsOnly, IsTwoAnd}
 use Rattle.binom_poly.specs.Variable.{y_of}
+use Rattle.binom_poly.proofs.Coefficients.{coefficient_at-cons}
 use Rattle.binom_poly.proofs.Separating.{two_and_tested}
+use Rattle.binom_poly.proofs.Unique.{rest_is}
 use Rattle.hall_table.specs.Shape.{alone, is_alone, coefficient_of, is_lower, AreLower, HasShape}
 use Rattle.hall_table.specs.Values.{point_of}
 use Rattle.hall_table.proofs.Shapes.{alone_is, not_alone}
@@ -37,17 +39,21 @@ is_alone-same_parts v m =
       ])
     ]
 
-coefficient_of-is : (v : ℕ) (p : List Term) → coefficient_of v p ≡ coefficient_at (alone v) p
-coefficient_of-is v [] = refl
-coefficient_of-is v (t ∷ ts) =
+coefficient_of-is : (v : ℕ) (p : List Term) → IsPolynomial p
+    → coefficient_of v p ≡ coefficient_at (alone v) p
+unfolding coefficient_at IsPolynomial
+coefficient_of-is v [] h = refl
+coefficient_of-is v (t ∷ ts) h =
     ap (λ (b : Bool). cond b t.coefficient (coefficient_of v ts)) (is_alone-same_parts v t.monomial)
-    ∙ ap (λ z. cond (same_parts (alone v) t.monomial) t.coefficient z) (coefficient_of-is v ts)
+    ∙ ap (λ z. cond (same_parts (alone v) t.monomial) t.coefficient z)
+    (coefficient_of-is v ts (rest_is t ts h))
+    ∙ sym (coefficient_at-cons (alone v) t ts h)
 
-HasShape-two : (level k : ℕ) (p : List Term) → IsTwoAnd (is_lower level k) k (y_of k) p
-    → HasShape level k p
-HasShape-two level k p h = record {
-  x = coefficient_of-is k p ∙ h.first;
-  y = coefficient_of-is (y_of k) p ∙ h.second;
+HasShape-two : (level k : ℕ) (p : List Term) → IsPolynomial p
+    → IsTwoAnd (is_lower level k) k (y_of k) p → HasShape level k p
+HasShape-two level k p f h = record {
+  x = coefficient_of-is k p f ∙ h.first;
+  y = coefficient_of-is (y_of k) p f ∙ h.second;
   others = h.others;
 }
 
@@ -61,7 +67,7 @@ pub HasShape-points : (level k : ℕ) (g : (ℕ → ℤ) → ℤ) (p : List Term
     → DependsOnly (is_lower level k) g
     → ((a : ℕ → ℤ) → value_of a p ≡ (a k +ℤ a (y_of k)) +ℤ g a) → HasShape level k p
 HasShape-points level k g p h f d e =
-    HasShape-two level k p
+    HasShape-two level k p f
     (two_and_tested (is_lower level k) k (y_of k) g p f (λ s. omega arith) (x_not_lower level k h)
     (y_not_lower level k h) d e)
 

@@ -1,4 +1,4 @@
-use Rattle.std.proofs.Common.{rules, refl, FitsSigned}
+use Rattle.std.proofs.Common.{rules, refl, FitsSigned, arith}
 use Rattle.std.specs.Int.{w128}
 use Rattle.std.proofs.lemmas.Int.{to_z-of_z}
 use Rattle.binom_poly.specs.Readings.{value_at}
@@ -15,5 +15,5 @@ value-requires c =
 pub returns-in-Ok-clause-within : goal.returns-in-Ok-clause-within
 returns-in-Ok-clause-within c =
     let g : FitsSigned w128 c.in-Ok.value = search rules in
-    entry_within (value_at c.args.rows.now) c.index.result.now _ c.in-Ok.value (to_z-of_z w128 c.in-Ok.value g) c.in-Ok.ensures.value
-    c.in-Ok.ensures.fits
+    entry_within (value_at c.args.rows.now) c.index.result.now _ c.in-Ok.value (to_z-of_z w128 c.in-Ok.value g) c.in-Ok.ensures.0
+    (omega (arith, c.in-Ok.ensures.1))

@@ -8,7 +8,7 @@ use Rattle.hall_table.proofs.table.Table.set_x.Goals as goal
 
 pub returns-in-Ok-clause-wide : goal.returns-in-Ok-clause-wide
 returns-in-Ok-clause-wide c =
-    put_fits c.args.x _ _ _ (to_z-of_z w128 c.args.x c.ranges.x) (c.requires.rows.width c.args.k) c.in-Ok.ensures.fits
+    put_fits c.args.x _ _ _ (to_z-of_z w128 c.args.x c.ranges.x) (c.requires.rows.width c.args.k) c.in-Ok.ensures.wide
 
 pub returns-in-Ok-clause-rows : goal.returns-in-Ok-clause-rows
 returns-in-Ok-clause-rows c =

@@ -12,7 +12,7 @@ pub returns-in-Ok-clause-wide : goal.returns-in-Ok-clause-wide
 returns-in-Ok-clause-wide c =
     put_fits c.args.x _ _ _ (to_z-of_z w128 c.args.x c.ranges.x)
     (ap (width_at c.args.rows.now) c.y_of.ensures ∙ c.requires.rows.width (y_of c.args.k))
-    c.in-Ok.ensures.fits
+    c.in-Ok.ensures.wide
 
 pub returns-in-Ok-clause-rows : goal.returns-in-Ok-clause-rows
 returns-in-Ok-clause-rows c =
