@@ -23,9 +23,12 @@ use Rattle.binom_poly.proofs.Variables.{variable_positive}
 use Rattle.binom_poly.proofs.Times.{value-append}
 use Rattle.binom_poly.proofs.Canonical.{all_monomials, value-var_terms, weight-polynomial, weight-rest}
 use Rattle.binom_poly.proofs.Collecting.{zero_or_not, value-collected, polynomial-collected}
-use Rattle.binom_poly.proofs.Coefficients.{coefficient_at-collected}
+use Rattle.binom_poly.proofs.Coefficients.{coefficient_at-collected, abs-coefficient_at}
 use Rattle.binom_poly.proofs.Depending.{has_only, only, masked, masked_there, masked_elsewhere, value-only, polynomial-only, all-only, only_kept, only_dropped}
 use Rattle.binom_poly.proofs.Standing.{variable_added}
+
+no_magnitude : (z : ℤ) → unsigned_abs z ≡ 0 → z ≡ pos 0
+no_magnitude z h = omega (arith, ints)
 
 -- ---- what holds of each contribution's monomial holds of each term's
 all-with_term : (P : List Part → Type 0) (ms : List Part) (c : ℤ) (ts : List Term) → P ms → All (λ t. P t.monomial) ts
