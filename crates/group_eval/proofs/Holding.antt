@@ -18,50 +18,9 @@ use Rattle.hall_table.specs.Tabled.{Tabled, IsTabled, last_of, poly_at}
 use Rattle.hall_table.specs.Values.{point_of}
 use Rattle.hall_table.specs.Order.{sum_overflows, sum_at_overflows}
 use Rattle.hall_table.proofs.Covering.{poly_lower}
-use Rattle.hall_table.proofs.Multiplied.{Hold}
+use Rattle.hall_table.proofs.Multiplied.{Hold, points_agree}
 use Rattle.hall_table.proofs.Putting.{Agree, value-agree, magnitude-agree}
 use Rattle.group_eval.specs.Order.{difference}
-
-lower_cases : (level n v : ℕ) → is_lower level n v ≡ true
-    → ((level ≤ v) × (v < n)) ⊎ ((64 + level ≤ v) × (v < 64 + n))
-lower_cases level n v h = grind (arith, nat_tests)
-
-below_64 : (v : ℕ) → v < 64 → ltb v 64 ≡ true
-below_64 v h = grind (arith, nat_tests)
-
-not_below_64 : (v : ℕ) → 64 ≤ v → ltb v 64 ≡ false
-not_below_64 v h = grind (arith, nat_tests)
-
-agree_at : (t : Tabled) (a x : List ℤ) (rows : List Reading) (v : ℕ) → IsTabled t → Hold t a x rows
-    → is_lower t.level (last_of t + 1) v ≡ true → value_at rows v ≡ point_of a x v
-agree_at t a x rows v h r l =
-    let most : t.level + length t.polys ≤ 49 = h.most in
-    let nonempty : 0 < length t.polys = h.nonempty in
-    let side = λ (c : Bool). cond c (entry a v) (entry x (v - 64)) in
-    elim (lower_cases t.level (last_of t + 1) v l) [
-      | inl f ↦
-          let low : t.level ≤ v = f.0 in
-          let high : v < last_of t + 1 = f.1 in
-          r.x v low (omega arith) ∙ sym (ap side (below_64 v (omega arith)))
-      | inr f ↦
-          let low : 64 + t.level ≤ v = f.0 in
-          let high : v < 64 + (last_of t + 1) = f.1 in
-          let e : 64 + (v - 64) ≡ v = omega arith in
-          ap (value_at rows) (sym e) ∙ r.y (v - 64) (omega arith) (omega arith)
-          ∙ sym (ap side (not_below_64 v (omega arith)))
-    ]
-
-points_agree : (t : Tabled) (a x : List ℤ) (rows : List Reading) (k : ℕ) → IsTabled t
-    → Hold t a x rows → t.level ≤ k → k ≤ last_of t
-    → All (λ u. Agree (value_at rows) (point_of a x) u.monomial) (poly_at t k)
-points_agree t a x rows k h r low high =
-    All-weaker (λ (u : Term). AreLower t.level (last_of t + 1) u.monomial)
-    (λ (u : Term). Agree (value_at rows) (point_of a x) u.monomial)
-    (λ u f.
-    All-weaker (λ (q : Part). IsTrue (is_lower t.level (last_of t + 1) q.var))
-    (λ (q : Part). value_at rows q.var ≡ point_of a x q.var)
-    (λ q g. agree_at t a x rows q.var h r g) u.monomial f)
-    (poly_at t k) (poly_lower t k h low high)
 
 pub difference-rows : (t : Tabled) (a b x : List ℤ) (rows : List Reading) (k : ℕ) → IsTabled t
     → Hold t a x rows → t.level ≤ k → k ≤ last_of t

@@ -1,19 +1,19 @@
 //! Solutions.
 
-ghost use Rattle.std.specs.Prelude.{◌≡◌, ◌<◌, ◌≤◌, ℕ, true, false, ◌-ℤ◌, pos, List, [], ◌∷◌, length, OnOk, OnErr, IfOk, IfErr, MatchResult, Some, None, option_map};
+ghost use Rattle.std.specs.Prelude.{◌≡◌, ◌<◌, ◌≤◌, ℕ, true, false, ◌-ℤ◌, pos, List, [], ◌∷◌, length, OnOk, OnErr, IfOk, IfErr};
 ghost use Rattle.nil_num.specs.Bound.{IsNumber};
 ghost use Rattle.nil_num.specs.Outcome.{Writes};
 ghost use Rattle.nil_word.specs.declared.letter.Letter.{Letter};
-ghost use Rattle.nil_word.specs.Exponents.{entry};
 ghost use Rattle.binom_poly.specs.Polynomial.{value_of};
 ghost use Rattle.binom_poly.specs.Readings.{value_at};
 ghost use Rattle.hall_table.specs.Multiplies.{IsChecked};
 ghost use Rattle.hall_table.specs.Order.{sum_overflows};
+ghost use Rattle.hall_table.specs.Shape.{IsX};
 ghost use Rattle.binom_poly.specs.Variable.{y_of};
 ghost use Rattle.hall_table.specs.Tabled.{IsTabled, last_of, poly_at};
 ghost use Rattle.hall_table.specs.Width.{HasRows};
 ghost use Rattle.group_eval.specs.Elements.{IsOf, IsSolution};
-ghost use Rattle.group_eval.specs.Order.{difference_overflows, left_overflow, solved};
+ghost use Rattle.group_eval.specs.Order.{difference_overflows, solved};
 ghost use Rattle.group_eval.specs.Space.{AreOf, HaveEntries, IsSpaceOf};
 
 use super::copying::clear;
@@ -63,7 +63,7 @@ pub(super) fn solve_into(
     let level = table.level();
     let last = table.last();
     clear(last, x);
-    put_x(table, rows, a)?;
+    table.put_x(rows, a)?;
     clear_y(table, rows);
     for k in level..last + 1 {
         let difference = difference_at(table, rows, k, b.at(k))?;
@@ -73,28 +73,12 @@ pub(super) fn solve_into(
     Ok(())
 }
 
-/// Puts the entries of a vector as the values of all x.
-fn put_x(table: &Table, rows: &mut Rows, a: &Vector) -> Result<(), WideAt>
-    requires length { length a.now ≡ last_of table.now }
-    requires rows { HasRows table.now rows.old }
-    ensures first { MatchResult result (λ _. left_overflow table.now a.now ≡ None)
-        (λ at. option_map WideAt.RowX (left_overflow table.now a.now) ≡ Some at) }
-    ensures put { OnOk result ((k : ℕ) → table.now.level ≤ k → k ≤ last_of table.now
-        → value_at rows.new k ≡ entry a.now k) }
-    ensures rows { HasRows table.now rows.new }
-{
-    for k in table.level()..table.last() + 1 {
-        table.set_x(rows, k, a.at(k))?;
-    }
-    Ok(())
-}
-
 /// Puts 0 as the values of all y.
 fn clear_y(table: &Table, rows: &mut Rows)
     requires rows { HasRows table.now rows.old }
     ensures put { (k : ℕ) → table.now.level ≤ k → k ≤ last_of table.now
         → value_at rows.new (y_of k) ≡ pos 0 }
-    ensures kept { (v : ℕ) → v < 64 → value_at rows.new v ≡ value_at rows.old v }
+    ensures kept { (v : ℕ) → IsX v → value_at rows.new v ≡ value_at rows.old v }
     ensures rows { HasRows table.now rows.new }
 {
     for k in table.level()..table.last() + 1 {
