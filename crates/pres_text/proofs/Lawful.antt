@@ -82,10 +82,10 @@ IsDraft-draft names ls rs h are found =
       names = subst AreNames (sym same) h;
       rows = shape.rows;
       widths = shape.widths;
-      lawful = λ j i low order.
-          let at : added (draft names ls) j i ≡ relation_at rs j i =
+      lawful = λ i j low order.
+          let at : added (draft names ls) i j ≡ relation_at rs j i =
           given_are names given j i found.pairs (omega (arith, low, order)) low ∙ found.lookup j i ∙ or_else-None (relation_at rs j i) in
-          subst (λ (ns : List (List ℕ)). IfSome (added (draft names ls) j i) (IsRight j (length ns))) (sym same)
+          subst (λ (ns : List (List ℕ)). IfSome (added (draft names ls) i j) (IsRight j (length ns))) (sym same)
           (subst (λ (o : Option (List Syllable)). IfSome o (IsRight j (length names))) (sym at) (rights_lawful names (map (λ l. l.text) ls) rs are j i));
     }
 
