@@ -1,7 +1,6 @@
 //! The texts of replies.
 
 ghost use Rattle.std.specs.Prelude.{◌≡◌, string_bytes, IfOk};
-ghost use Rattle.std.specs.Str.Lines.{strip_carriage_return};
 ghost use Rattle.word_text.specs.FaultTexts.{fault_text};
 ghost use Rattle.session_io.specs.Lines.{as_line};
 ghost use Rattle.query_session.specs.Replies.{line_of, reply};
@@ -9,6 +8,7 @@ ghost use Rattle.query_session.specs.Replies.{line_of, reply};
 use super::calculator::Calculator;
 use super::limits::LINE_LIMIT;
 use group_eval::Reply;
+use line_tokens::without_return;
 use std::alloc::{AllocError, Global};
 use word_text::laws::readings;
 use word_text::{QueryFault, read_query, vector_text};
@@ -33,16 +33,6 @@ pub(crate) fn reply_to(
         }
         Err(QueryFault::Memory) => Err(AllocError),
         Err(fault) => fault_line(alloc, &fault),
-    }
-}
-
-/// The line without a carriage return at its end.
-fn without_return(line: &[u8]) -> &[u8]
-    ensures { result.now ≡ strip_carriage_return line.now }
-{
-    match line {
-        [front @ .., b'\r'] => front,
-        _ => line,
     }
 }
 

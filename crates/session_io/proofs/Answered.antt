@@ -5,7 +5,8 @@ use Rattle.std.specs.Io.KnownBytes.{Appends}
 use Rattle.session_io.specs.declared.end.End.{End}
 use Rattle.session_io.specs.declared.end.End.TheVariants as end
 use Rattle.session_io.specs.declared.stop.Stop.{Stop}
-use Rattle.session_io.specs.Lines.{lines_of, whole_lines, as_lines, EndsAtLine}
+use Rattle.line_tokens.specs.Lines.{lines_of}
+use Rattle.session_io.specs.Lines.{whole_lines, as_lines, EndsAtLine}
 use Rattle.session_io.specs.Answers.{replies_by, end_text, answer_by, last_piece}
 use Rattle.session_io.specs.Stops.{IsStopped}
 use Rattle.session_io.proofs.Appending.{Appends-none, Appends-both}

@@ -1,5 +1,4 @@
 pub mod Appending
-pub mod Finding
 pub mod Lines
 pub mod Stopping
 pub mod Answered

@@ -1,7 +1,8 @@
 -- Lines in front of others.
 use Rattle.std.proofs.Common.{◌≡◌, ℕ, ◌==◌, Bool, cond, true, false, List, [], ◌∷◌, ◌++◌, refl, sym, subst, ◌∙◌, ap}
 use Rattle.std.specs.List.{onto_first}
-use Rattle.session_io.specs.Lines.{lines_of, but_last, whole_lines}
+use Rattle.line_tokens.specs.Lines.{lines_of}
+use Rattle.session_io.specs.Lines.{but_last, whole_lines}
 
 -- a list that begins with an element
 pub record IsSome (ls : List (List ℕ)) : Type 0 where

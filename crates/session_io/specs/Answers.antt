@@ -27,7 +27,8 @@ use Rattle.session_io.specs.declared.end.End.TheVariants as end
 use Rattle.session_io.specs.declared.stop.Stop.{Stop}
 use Rattle.session_io.specs.declared.stop.Stop.TheVariants as stop
 use Rattle.session_io.specs.Asked.{Fed}
-use Rattle.session_io.specs.Lines.{lines_of, whole_lines, as_lines}
+use Rattle.line_tokens.specs.Lines.{lines_of}
+use Rattle.session_io.specs.Lines.{whole_lines, as_lines}
 use Rattle.session_io.specs.Taking.{IsTaken, IsEnd}
 use Rattle.session_io.specs.Stops.{IsFront, IsCut}
 

@@ -4,14 +4,15 @@ ghost use Rattle.std.specs.Prelude.{◌≡◌, ℕ, ◌≤◌, ◌++◌, [], ◌
 ghost use Rattle.std.specs.Io.KnownBytes.{Appends};
 ghost use Rattle.nil_io.specs.Causes.{Rose};
 ghost use Rattle.session_io.specs.Answers.{replies_by, answer_by, last_piece};
-ghost use Rattle.session_io.specs.Lines.{lines_of, whole_lines, EndsAtLine};
+ghost use Rattle.line_tokens.specs.Lines.{lines_of};
+ghost use Rattle.session_io.specs.Lines.{whole_lines, EndsAtLine};
 ghost use Rattle.session_io.specs.Stops.{IsStopped};
 
 use super::end::End;
-use super::pieces::first_piece;
 use super::putting::put_all;
 use super::replier::Replier;
 use super::stop::Stop;
+use line_tokens::split_line;
 use nil_io::Sink;
 use std::alloc::Global;
 
@@ -76,7 +77,7 @@ fn answer_lines<'a, T: Replier, K: Sink>(
 {
     let mut rest = bytes;
     'answering: loop {
-        let (line, more) = first_piece(rest, b'\n');
+        let (line, more) = split_line(rest);
         match more {
             None => return Ok(line),
             Some(next) => {

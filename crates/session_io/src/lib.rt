@@ -5,7 +5,6 @@
 
 mod answering;
 pub mod end;
-pub mod pieces;
 pub mod putting;
 pub mod replier;
 mod source_lines;
@@ -13,7 +12,6 @@ pub mod stop;
 mod taking;
 
 pub use end::End;
-pub use pieces::{first_piece, place_of};
 pub use putting::put_all;
 pub use replier::Replier;
 pub use source_lines::answer_source;
