@@ -7,7 +7,7 @@ use Rattle.std.specs.declared.cmp.Ordering.TheVariants.{Less, Equal, Greater}
 use Rattle.std.proofs.lemmas.Bool.{cases_Bool, false≢true, ne_eqb}
 use Rattle.std.proofs.lemmas.List.Elements.{All-cons, All-tail, All-head}
 use borrow.Author.Differences.{ints}
-use lib.IntN.{ℤ, pos, ◌+ℤ◌, +ℤ_idr, +ℤ_idl}
+use lib.IntN.{ℤ, pos, ◌+ℤ◌}
 use Rattle.nil_num.specs.Bound.{Fits}
 use Rattle.binom_poly.specs.declared.part.Part.{Part}
 use Rattle.binom_poly.specs.declared.term.Term.{Term}
@@ -18,10 +18,10 @@ use Rattle.binom_poly.specs.Sums.{AllMonomials}
 use Rattle.binom_poly.specs.Collected.{with_term, put_term, collected, var_terms}
 use Rattle.binom_poly.specs.Totals.{coefficient_at}
 use Rattle.binom_poly.specs.Dependence.{DependsOnly, HasOnly, alone, IsTwoAnd}
-use Rattle.binom_poly.proofs.Unique.{unique_form, rest_is}
+use Rattle.binom_poly.proofs.Unique.{unique_form}
 use Rattle.binom_poly.proofs.Variables.{variable_positive}
 use Rattle.binom_poly.proofs.Times.{value-append}
-use Rattle.binom_poly.proofs.Canonical.{all_monomials, value-var_terms, weight-polynomial, weight-rest}
+use Rattle.binom_poly.proofs.Canonical.{all_monomials, value-var_terms, weight-polynomial}
 use Rattle.binom_poly.proofs.Collecting.{zero_or_not, value-collected, polynomial-collected}
 use Rattle.binom_poly.proofs.Coefficients.{coefficient_at-collected, abs-coefficient_at}
 use Rattle.binom_poly.proofs.Depending.{has_only, only, masked, masked_there, masked_elsewhere, value-only, polynomial-only, all-only, only_kept, only_dropped}

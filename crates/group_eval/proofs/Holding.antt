@@ -1,25 +1,17 @@
 -- Rows that hold the entries of two vectors: the sums and differences that they give.
 --   t table · a b x vectors · rows rows with the entries of a and x · k generator · v variable
-use Rattle.std.proofs.Common.{◌≡◌, ℕ, ◌+◌, ◌-◌, ◌<◌, ◌≤◌, Bool, true, false, cond, List, length, sym, ap, ◌∙◌, arith, ◌⊎◌, inl, inr}
-use Rattle.std.specs.Prelude.{All, IsTrue}
-use Rattle.std.proofs.lemmas.Bool.Decides.{nat_tests}
-use Rattle.std.proofs.lemmas.List.Elements.{All-weaker}
+use Rattle.std.proofs.Common.{◌≡◌, ℕ, ◌≤◌, List, ap}
 use lib.IntN.{ℤ, ◌-ℤ◌}
-use lib.Dec.{ltb}
 use Rattle.nil_num.specs.Bound.{overflows}
 use Rattle.nil_word.specs.Exponents.{entry}
-use Rattle.binom_poly.specs.declared.part.Part.{Part}
-use Rattle.binom_poly.specs.declared.term.Term.{Term}
 use Rattle.binom_poly.specs.Polynomial.{value_of}
 use Rattle.binom_poly.specs.Reading.{Reading}
 use Rattle.binom_poly.specs.Readings.{value_at}
-use Rattle.hall_table.specs.Shape.{is_lower, AreLower}
 use Rattle.hall_table.specs.Tabled.{Tabled, IsTabled, last_of, poly_at}
 use Rattle.hall_table.specs.Values.{point_of}
 use Rattle.hall_table.specs.Order.{sum_overflows, sum_at_overflows}
-use Rattle.hall_table.proofs.Covering.{poly_lower}
 use Rattle.hall_table.proofs.Multiplied.{Hold, points_agree}
-use Rattle.hall_table.proofs.Putting.{Agree, value-agree, magnitude-agree}
+use Rattle.hall_table.proofs.Putting.{value-agree, magnitude-agree}
 use Rattle.group_eval.specs.Order.{difference}
 
 pub difference-rows : (t : Tabled) (a b x : List ℤ) (rows : List Reading) (k : ℕ) → IsTabled t

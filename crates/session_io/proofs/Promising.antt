@@ -10,7 +10,7 @@ use Rattle.session_io.specs.declared.stop.Stop.TheVariants as stop
 use Rattle.session_io.specs.Asked.{Fed}
 use Rattle.session_io.specs.Taking.{IsTaken, IsEnd, finished, failed, long}
 use Rattle.session_io.specs.Answers as answers
-use Rattle.session_io.specs.Answers.{replies_by, by_reply, AreReplies, kept, ended_lines, answer_by, IsAnswer, IsDetermined, within, above, IsPromised, IsOutput, IsAnswered}
+use Rattle.session_io.specs.Answers.{replies_by, by_reply, AreReplies, kept, ended_lines, answer_by, IsAnswer, within, above, IsPromised, IsOutput, IsAnswered}
 use Rattle.session_io.specs.Stops as stops
 use Rattle.session_io.specs.Stops.{IsStopped}
 use Rattle.session_io.proofs.Appending.{Appends-none}
