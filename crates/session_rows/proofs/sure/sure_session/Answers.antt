@@ -1,5 +1,5 @@
 -- No count of these ever rises.
-use Rattle.std.proofs.Common.{◌≡◌, ◌≤◌, arith, refl}
+use Rattle.std.proofs.Common.{arith, refl}
 use Rattle.nil_io.specs.Causes.{Rose}
 use Rattle.session_rows.proofs.sure.sure_session.Goals as goal
 
