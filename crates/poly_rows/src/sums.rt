@@ -7,9 +7,7 @@ use std::test::Fail;
 fn a_running_sum_adds_up(rt: HostRuntime) -> Result<(), Fail> {
     let alloc = rt.alloc();
     let x = var(alloc, 1)?;
-    let mut sum = RunningSum::new(alloc);
-    sum.add(alloc, &x)?;
-    sum.add(alloc, &x)?;
+    let sum = RunningSum::new(alloc).add(alloc, &x)?.add(alloc, &x)?;
     assert_eq!(rt; text(alloc, &sum.into_poly(alloc)?)?.as_str(), "2*x1");
     Ok(())
 }
@@ -18,11 +16,8 @@ fn a_running_sum_adds_up(rt: HostRuntime) -> Result<(), Fail> {
 fn magnitudes_of_a_running_sum_are_summed(rt: HostRuntime) -> Result<(), Fail> {
     let alloc = rt.alloc();
     let x = var(alloc, 1)?;
-    let mut sum = RunningSum::new(alloc);
-    sum.add(alloc, &scale(alloc, &x, i128::MAX)?)?;
-    assert_eq!(rt;
-        sum.add(alloc, &scale(alloc, &x, -1)?),
-        Err(PolyFault::Wide)
-    );
+    let sum = RunningSum::new(alloc).add(alloc, &scale(alloc, &x, i128::MAX)?)?;
+    let refused = sum.add(alloc, &scale(alloc, &x, -1)?);
+    assert_eq!(rt; refused.err(), Some(PolyFault::Wide));
     Ok(())
 }
