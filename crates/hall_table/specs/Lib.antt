@@ -5,3 +5,4 @@ pub mod Width
 pub mod Order
 pub mod Tail
 pub mod Multiplies
+pub mod Agreement

@@ -4,6 +4,7 @@
 
 mod checked;
 pub mod laws;
+mod lending;
 mod multiplying;
 pub mod presentations;
 mod reserving;

@@ -3,7 +3,7 @@ use Rattle.std.proofs.Common.{length, sym, subst}
 use Rattle.nil_word.specs.Expressions.{IsShaped}
 use Rattle.nil_word.specs.Queries.{IsShapedQuery}
 use Rattle.group_eval.specs.Expressions.{IsFrom}
-use Rattle.session_rows.proofs.evaluation.evaluate.Goals as goal
+use Rattle.element_rows.proofs.evaluation.evaluate.Goals as goal
 
 pub eval_expr-requires-clause-level : goal.eval_expr-requires-clause-level
 eval_expr-requires-clause-level c =
