@@ -1,22 +1,22 @@
 -- Identities at integer points: sides in unique form that are different differ at some point.
 --   rels a presentation · t table · id identity · j < l and k m generators · p q polynomials
 --   a point · up a generator, or its inverse
-use Rattle.std.proofs.Common.{◌≡◌, ◌≢◌, ℕ, ◌<◌, ◌≤◌, Bool, true, false, List, [], ◌∷◌, refl, sym, ap, ◌∙◌, subst, arith, ◌⊎◌, inl, inr}
+use Rattle.std.proofs.Common.{◌≡◌, ◌≢◌, ℕ, ◌≤◌, Bool, true, false, List, [], refl, sym, ap, subst, arith, inl, inr}
 use Rattle.std.proofs.lemmas.Bool.{cases_lt}
 use Rattle.std.proofs.lemmas.Bool.Decides.{eqb_tells}
 use borrow.Author.Differences.{ints}
-use lib.IntN.{ℤ, pos, negsuc, ◌-ℤ◌}
+use lib.IntN.{ℤ, pos, ◌-ℤ◌}
 use Rattle.nil_word.specs.Congruence.{Relations}
 use Rattle.binom_poly.specs.declared.term.Term.{Term}
 use Rattle.binom_poly.specs.Monomial.{point}
 use Rattle.binom_poly.specs.Polynomial.{value_of, IsPolynomial}
 use Rattle.binom_poly.specs.Variable.{y_of}
-use Rattle.binom_poly.specs.Collected.{constant_terms, var_terms, sum_of}
-use Rattle.binom_poly.proofs.Unique.{Split, equal_or_split}
+use Rattle.binom_poly.specs.Collected.{constant_terms, var_terms}
+use Rattle.binom_poly.proofs.Unique.{equal_or_split}
 use Rattle.binom_poly.proofs.Canonical.{all_monomials, polynomial-nothing, polynomial-var}
 use Rattle.poly_subst.specs.Walk.{in_x, in_y}
 use Rattle.poly_subst.proofs.Vanishing.{polynomial-without}
-use Rattle.hall_table.specs.Tabled.{Tabled, IsTabled, last_of, poly_at}
+use Rattle.hall_table.specs.Tabled.{Tabled, IsTabled, poly_at}
 use Rattle.hall_table.specs.Order.{generators}
 use Rattle.identity_check.specs.declared.identity.Identity.{Identity}
 use Rattle.identity_check.specs.declared.identity.Identity.TheVariants.{UnitRight, UnitLeft, Up, Down, StepUp, StepDown, Relation}
@@ -27,12 +27,13 @@ use Rattle.identity_check.specs.Events.{Stops, HaveEqualSides}
 use Rattle.identity_check.specs.Events.Event.{tries}
 use Rattle.identity_check.specs.Points.{IsGenerator, IsIdentityOf, IsMade, AreEqualAt, DifferSomewhere}
 use Rattle.identity_check.proofs.Agreeing.{bounds_of, IsOf, form_at}
-use Rattle.identity_check.proofs.ByNumber.{IsUnit, unit_up, unit_down, polynomial_number, is_step}
+use Rattle.identity_check.proofs.ByNumber.{polynomial_number, is_step}
 use Rattle.identity_check.proofs.Products.{polynomial-sum_of}
 use Rattle.identity_check.proofs.Substituted.{is_substituted}
 use Rattle.identity_check.proofs.OrderConditions.{last_added_before, last_added_here, last_added_after}
 use Rattle.identity_check.proofs.StepConditions.{AreSteps, put_in_x, put_in_y, steps_made}
 use Rattle.identity_check.proofs.MadeSides.{small_sum}
+use Rattle.identity_check.proofs.MadeSteps.{unit_of}
 use Rattle.identity_check.proofs.Pushing.{x_variable, y_variable}
 use Rattle.identity_check.proofs.Constants.{constants_apart}
 use Rattle.identity_check.proofs.Walked.{OfWalk, of_walk, sides_equal}
@@ -69,10 +70,6 @@ polynomial-y : (t : Tabled) (k : ℕ) → IsTabled t → IsOf t k → IsPolynomi
 polynomial-y t k h o = polynomial-var (y_of k) (y_variable t k h o.low o.high) (omega arith)
 
 -- ---- sides in unique form
-unit_of : (up : Bool) → IsUnit (number_of up)
-unit_of true = unit_up
-unit_of false = unit_down
-
 polynomial-last_added : (t : Tabled) (j k : ℕ) (up : Bool) → IsTabled t → IsOf t k
     → IsPolynomial (last_added j (number_of up) k)
 polynomial-last_added t j k up h o =

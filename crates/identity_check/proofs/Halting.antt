@@ -1,7 +1,7 @@
 -- The first event of a walk that stops, in longer stretches.
 --   rels a presentation · t table · es events · e event, or one for each number · h halt
 --   low d   the numbers of a list, d of them from low on · k one of them
-use Rattle.std.proofs.Common.{◌≡◌, ◌≢◌, ◌+◌, ◌-◌, List, [], ◌∷◌, ◌++◌, refl, sym, ap, ◌∙◌, subst, inl, inr, append_assoc}
+use Rattle.std.proofs.Common.{◌≡◌, ◌≢◌, List, [], ◌∷◌, ◌++◌, refl, sym, ap, ◌∙◌, subst, inl, inr, append_assoc}
 use Rattle.std.specs.Prelude.{All, Result, Ok, Err}
 use Rattle.std.proofs.lemmas.List.Elements.{All-nil, All-cons, All-append}
 use lib.IntN.{ℤ}

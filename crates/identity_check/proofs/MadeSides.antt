@@ -3,7 +3,6 @@
 --   vs variables · p q polynomials · list what is put in
 use Rattle.std.proofs.Common.{◌≡◌, ℕ, ◌≤◌, Bool, true, false, cond, List, [], ◌∷◌, refl, sym, ap, ◌∙◌, subst, arith, inl, inr}
 use Rattle.std.specs.Prelude.{Result, Ok, Err}
-use lib.IntN.{ℤ}
 use Rattle.nil_num.specs.Outcome.{Gives, Unless}
 use Rattle.nil_word.specs.Congruence.{Relations}
 use Rattle.binom_poly.specs.declared.term.Term.{Term}

@@ -1,9 +1,8 @@
 -- What a failure shows.
 --   rels a presentation · t table · es events · f failure · at the value of a variable · v variable
-use Rattle.std.proofs.Common.{◌≡◌, ◌≢◌, ◌==◌, ℕ, Bool, true, false, cond, List, [], ◌∷◌, refl, sym, ap, ◌∙◌, subst}
+use Rattle.std.proofs.Common.{◌≡◌, ◌==◌, ℕ, Bool, true, false, cond, List, [], ◌∷◌, refl, sym, ap, ◌∙◌, subst}
 use lib.IntN.{ℤ, pos, ◌-ℤ◌}
 use Rattle.nil_word.specs.Congruence.{Relations}
-use Rattle.binom_poly.specs.declared.part.Part.{Part}
 use Rattle.binom_poly.specs.declared.term.Term.{Term}
 use Rattle.binom_poly.specs.Monomial.{exponent_of, point}
 use Rattle.binom_poly.specs.Polynomial.{value_of}

@@ -17,7 +17,7 @@ use crate::identity::Identity;
 use crate::listing;
 use crate::making::{by_number, last_added, put_in_kept};
 use hall_table::Table;
-use poly_subst::Assign;
+use poly_subst::Substitution;
 use std::alloc::Global;
 
 /// The identity of a generator, or of its inverse, that comes last.
@@ -36,7 +36,7 @@ fn last_letter(
     alloc: Global,
     table: &Table,
     vars: &[u32],
-    list: &[Assign],
+    put: &mut Substitution,
     j: u32,
     up: bool,
     k: u32,
@@ -47,12 +47,13 @@ fn last_letter(
     requires most { k ≤ last_of table.now }
     requires cleared { vars.now ≡ cleared table.now j }
     requires variables { All IsVariable vars.now }
-    requires list { list.now ≡ by_number (y_of j) (number_of up) }
-    ensures { Walks table.now (tries (last_id up j k) ∷ []) result }
+    requires put { put.old ≡ by_number (y_of j) (number_of up) }
+    ensures walks { Walks table.now (tries (last_id up j k) ∷ []) result }
+    ensures kept { put.new ≡ put.old }
 {
     let _ = table.last();
     let identity = last_id(j, up, k);
-    let left = put_in_kept(alloc, identity, table.lend(k), vars, list)?;
+    let left = put_in_kept(alloc, identity, table.lend(k), vars, put)?;
     let right = last_added(alloc, identity, j, up, k)?;
     compare(alloc, identity, &left, &right)
 }
@@ -65,9 +66,9 @@ pub fn last_letters(alloc: Global, table: &Table, j: u32, up: bool) -> Result<()
 {
     let end = table.last() + 1;
     let vars = listing::cleared(alloc, table, j)?;
-    let list = by_number(alloc, j, up)?;
+    let mut put = by_number(alloc, j, up)?;
     for k in table.level()..end {
-        last_letter(alloc, table, &vars, &list, j, up, k)?;
+        last_letter(alloc, table, &vars, &mut put, j, up, k)?;
     }
     Ok(())
 }

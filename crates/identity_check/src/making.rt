@@ -1,6 +1,6 @@
 //! The polynomials of the sides.
 
-ghost use Rattle.std.specs.Prelude.{◌≡◌, ◌≢◌, ◌≤◌, All, AllPairs, IfOk};
+ghost use Rattle.std.specs.Prelude.{◌≡◌, ◌≤◌, All, IfOk};
 ghost use Rattle.binom_poly.specs.Monomial.{IsVariable};
 ghost use Rattle.binom_poly.specs.Variable.{y_of};
 ghost use Rattle.poly_subst.specs.Renaming.{without};
@@ -13,7 +13,7 @@ ghost use Rattle.identity_check.specs.Halts.{Makes};
 use crate::halt::{Halt, named};
 use crate::identity::Identity;
 use binom_poly::{Memory, Poly, add, constant, var, x_of, y_of, zero};
-use poly_subst::{Assign, set_zero, substitute};
+use poly_subst::{Assign, Substitution, set_zero};
 use std::alloc::Global;
 
 /// The number that is put in place of `y_j`: 1, or -1 for the inverse.
@@ -24,24 +24,29 @@ fn number_of(up: bool) -> i128
 }
 
 /// What puts that number in place of `y_j`.
-pub fn by_number(alloc: Global, j: u32, up: bool) -> Result<Vec<Assign>, Memory>
-    requires { j ≤ 48 }
-    ensures { IfOk result (λ list. list.items ≡ by_number (y_of j) (number_of up)) }
+pub fn by_number(alloc: Global, j: u32, up: bool) -> Result<Substitution, Memory>
+    requires least { 1 ≤ j }
+    requires most { j ≤ 48 }
+    ensures { IfOk result (λ put. put ≡ by_number (y_of j) (number_of up)) }
 {
     let to = constant(alloc, number_of(up))?;
     let mut list = Vec::new(alloc);
     list.push(Assign { var: y_of(j), to })?;
-    Ok(list)
+    Substitution::new(alloc, list)
 }
 
 /// A polynomial with others in place of variables, for an identity.
-pub fn put_in(alloc: Global, identity: Identity, p: &Poly, list: &[Assign]) -> Result<Poly, Halt>
-    requires variables { All (λ assign. IsVariable assign.var) list.now }
-    requires different { AllPairs (λ s t. s.var ≢ t.var) list.now }
-    ensures { Makes identity (SubstituteOverflows p.now list.now) (substituted p.now list.now)
+pub fn put_in(
+    alloc: Global,
+    identity: Identity,
+    p: &Poly,
+    put: &mut Substitution,
+) -> Result<Poly, Halt>
+    ensures made { Makes identity (SubstituteOverflows p.now put.old) (substituted p.now put.old)
         result }
+    ensures kept { put.new ≡ put.old }
 {
-    named(identity, substitute(alloc, p, list))
+    named(identity, put.apply(alloc, p))
 }
 
 /// A polynomial with variables set to 0, and others in place of variables then.
@@ -50,16 +55,15 @@ pub fn put_in_kept(
     identity: Identity,
     p: &Poly,
     vars: &[u32],
-    list: &[Assign],
+    put: &mut Substitution,
 ) -> Result<Poly, Halt>
-    requires zeros { All IsVariable vars.now }
-    requires variables { All (λ assign. IsVariable assign.var) list.now }
-    requires different { AllPairs (λ s t. s.var ≢ t.var) list.now }
-    ensures { let kept = without vars.now p.now in
-        Makes identity (SubstituteOverflows kept list.now) (substituted kept list.now) result }
+    requires { All IsVariable vars.now }
+    ensures made { let rest = without vars.now p.now in
+        Makes identity (SubstituteOverflows rest put.old) (substituted rest put.old) result }
+    ensures kept { put.new ≡ put.old }
 {
-    let kept = set_zero(alloc, p, vars)?;
-    put_in(alloc, identity, &kept, list)
+    let rest = set_zero(alloc, p, vars)?;
+    put_in(alloc, identity, &rest, put)
 }
 
 /// Entry k of x with the number added at j, where each x above j is 0.

@@ -17,7 +17,7 @@ use crate::steps::{put_x, steps};
 use crate::units::{units_left, units_right};
 use hall_table::Table;
 use nil_pres::Presentation;
-use poly_subst::Assign;
+use poly_subst::Substitution;
 use std::alloc::Global;
 
 /// Tries the identities of a generator that comes last, and then those of its inverse.
@@ -41,23 +41,24 @@ fn all_last(alloc: Global, table: &Table) -> Result<(), Halt>
 }
 
 /// Tries the step identities of a generator, and then those of its inverse.
-fn step_pair(alloc: Global, table: &Table, list: &[Assign], j: u32) -> Result<(), Halt>
+fn step_pair(alloc: Global, table: &Table, put: &mut Substitution, j: u32) -> Result<(), Halt>
     requires least { table.now.level ≤ j }
     requires most { j ≤ last_of table.now }
-    requires list { list.now ≡ in_x table.now.level (generators table.now) (poly_at table.now) }
-    ensures { Walks table.now (step_events (xs table.now) j) result }
+    requires put { put.old ≡ in_x table.now.level (generators table.now) (poly_at table.now) }
+    ensures walks { Walks table.now (step_events (xs table.now) j) result }
+    ensures kept { put.new ≡ put.old }
 {
-    steps(alloc, table, list, j, true)?;
-    steps(alloc, table, list, j, false)
+    steps(alloc, table, put, j, true)?;
+    steps(alloc, table, put, j, false)
 }
 
 /// Tries these of each generator.
 fn all_steps(alloc: Global, table: &Table) -> Result<(), Halt>
     ensures { Walks table.now (flat_map (step_events (xs table.now)) (xs table.now)) result }
 {
-    let list = put_x(alloc, table)?;
+    let mut put = put_x(alloc, table)?;
     for j in table.level()..table.last() + 1 {
-        step_pair(alloc, table, &list, j)?;
+        step_pair(alloc, table, &mut put, j)?;
     }
     Ok(())
 }

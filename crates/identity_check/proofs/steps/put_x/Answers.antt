@@ -1,9 +1,11 @@
-use Rattle.std.proofs.Common.{◌≡◌, ◌-◌, ◌∙◌, ap, arith}
+use Rattle.std.proofs.Common.{◌≡◌, ℕ, ◌-◌, ◌∙◌, List, ap, subst, arith}
+use Rattle.std.specs.Prelude.{IfOk}
+use Rattle.poly_subst.specs.declared.assign.Assign.{Assign}
 use Rattle.poly_subst.specs.Walk.{in_x}
-use Rattle.hall_table.specs.Tabled.{poly_at}
+use Rattle.hall_table.specs.Tabled.{Tabled, poly_at}
 use Rattle.hall_table.specs.Order.{generators}
 use Rattle.identity_check.proofs.MadeSteps.{x_begins}
-use Rattle.identity_check.proofs.Putting.{more_in_x}
+use Rattle.identity_check.proofs.Putting.{more_in_x, variables_x}
 use Rattle.identity_check.proofs.steps.put_x.Goals as goal
 
 pub loop-k-init : goal.loop-k-init
@@ -17,8 +19,24 @@ loop-k-preserved c =
     c.loop-k.list.items c.push.new.self.items (omega arith) c.x_of.ensures c.in_ok-to.ensures
     c.loop-k.invariant c.in_ok-push.ensures.items
 
+list_is : (t : Tabled) (k : ℕ) (ss : List Assign) → ss ≡ in_x t.level (k - t.level) (poly_at t)
+    → k - t.level ≡ generators t → ss ≡ in_x t.level (generators t) (poly_at t)
+list_is t k ss h e = h ∙ ap (λ d. in_x t.level d (poly_at t)) e
+
+pub new-requires-clause-variables : goal.new-requires-clause-variables
+new-requires-clause-variables c =
+    let t = c.args.table.now in
+    (variables_x t (poly_at t) c.loop-k.list.items c.last-k-end.ensures.form
+    (list_is t c.loop-k.k c.loop-k.list.items c.loop-k.invariant (omega arith))).0
+
+pub new-requires-clause-different : goal.new-requires-clause-different
+new-requires-clause-different c =
+    let t = c.args.table.now in
+    (variables_x t (poly_at t) c.loop-k.list.items c.last-k-end.ensures.form
+    (list_is t c.loop-k.k c.loop-k.list.items c.loop-k.invariant (omega arith))).1
+
 pub returns : goal.returns
 returns c =
     let t = c.args.table.now in
-    let e : c.loop-k.k - t.level ≡ generators t = omega arith in
-    c.loop-k.invariant ∙ ap (λ d. in_x t.level d (poly_at t)) e
+    subst (λ (ss : List Assign). IfOk c.new.result (λ put. put ≡ ss))
+    (list_is t c.loop-k.k c.loop-k.list.items c.loop-k.invariant (omega arith)) c.new.ensures

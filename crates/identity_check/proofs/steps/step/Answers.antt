@@ -8,32 +8,22 @@ use Rattle.identity_check.specs.Sides.{step}
 use Rattle.identity_check.specs.Signs.{number_of, step_id}
 use Rattle.identity_check.proofs.MadeSides.{step_wide, step_fits, step_left, step_right, wide_tries, compared_as}
 use Rattle.identity_check.proofs.MadeSteps.{put_overflows, put_same}
-use Rattle.identity_check.proofs.Putting.{place_within, place_holds, variables_x, variables_y}
+use Rattle.identity_check.proofs.Putting.{place_within, place_holds}
 use Rattle.identity_check.proofs.steps.step.Goals as goal
 
-pub put_in-requires-clause-variables : goal.put_in-requires-clause-variables
-put_in-requires-clause-variables c =
-    (variables_y c.args.table.now (step c.args.table.now c.args.j (number_of c.args.up))
-    c.deref.result.now c.last.ensures.form (c.deref.ensures.value ∙ c.requires.made)).0
-
-pub put_in-requires-clause-different : goal.put_in-requires-clause-different
-put_in-requires-clause-different c =
-    (variables_y c.args.table.now (step c.args.table.now c.args.j (number_of c.args.up))
-    c.deref.result.now c.last.ensures.form (c.deref.ensures.value ∙ c.requires.made)).1
-
-pub returns-in_err-left : goal.returns-in_err-left
-returns-in_err-left c = λ rels.
+pub returns-in_err-left-clause-walks : goal.returns-in_err-left-clause-walks
+returns-in_err-left-clause-walks c = λ rels.
     let t = c.args.table.now in
     let h = step t c.args.j (number_of c.args.up) in
     let p = err_from_is_err_and c.from_residual.result c.from_residual.ensures.1 in
     rw (p.1, p.2)
     (wide_tries rels t c.step_id-identity.result (step_id c.args.up c.args.j c.args.k)
-    (SubstituteOverflows c.lend.result.now c.deref.result.now) c.in_err-left.field-0.0
+    (SubstituteOverflows c.lend.result.now c.args.made.now.in_y) c.in_err-left.field-0.0
     c.step_id-identity.ensures
     (λ w. step_wide t c.args.j c.args.k c.args.up
-    (inl (put_overflows c.lend.result.now (poly_at t c.args.k) c.deref.result.now
-    (in_y t.level (generators t) h) c.lend.ensures (c.deref.ensures.value ∙ c.requires.made) w)))
-    c.in_err-left.ensures)
+    (inl (put_overflows c.lend.result.now (poly_at t c.args.k) c.args.made.now.in_y
+    (in_y t.level (generators t) h) c.lend.ensures c.requires.in_y w)))
+    c.in_err-left.ensures.made)
 
 pub index-requires : goal.index-requires
 index-requires c =
@@ -43,18 +33,8 @@ index-requires c =
     c.args.made.now.polys.items (omega arith) (omega arith) c.requires.polys in
     omega (arith, l)
 
-pub put_in-requires-2-clause-variables : goal.put_in-requires-2-clause-variables
-put_in-requires-2-clause-variables c =
-    (variables_x c.args.table.now (poly_at c.args.table.now) c.args.list.now c.last.ensures.form
-    c.requires.list).0
-
-pub put_in-requires-2-clause-different : goal.put_in-requires-2-clause-different
-put_in-requires-2-clause-different c =
-    (variables_x c.args.table.now (poly_at c.args.table.now) c.args.list.now c.last.ensures.form
-    c.requires.list).1
-
-pub returns-in_err-right : goal.returns-in_err-right
-returns-in_err-right c = λ rels.
+pub returns-in_err-right-clause-walks : goal.returns-in_err-right-clause-walks
+returns-in_err-right-clause-walks c = λ rels.
     let t = c.args.table.now in
     let h = step t c.args.j (number_of c.args.up) in
     let place : c.index.result.now ≡ h c.args.k =
@@ -65,38 +45,36 @@ returns-in_err-right c = λ rels.
     c.from_residual-in_err-right.ensures.1 in
     rw (p.1, p.2)
     (wide_tries rels t c.step_id-identity.result (step_id c.args.up c.args.j c.args.k)
-    (SubstituteOverflows c.index.result.now c.args.list.now) c.in_err-right.field-0.0
+    (SubstituteOverflows c.index.result.now c.args.put.now) c.in_err-right.field-0.0
     c.step_id-identity.ensures
     (λ w. step_wide t c.args.j c.args.k c.args.up
-    (inr (put_overflows c.index.result.now (h c.args.k) c.args.list.now
-    (in_x t.level (generators t) (poly_at t)) place c.requires.list w)))
-    c.in_err-right.ensures)
+    (inr (put_overflows c.index.result.now (h c.args.k) c.args.put.now
+    (in_x t.level (generators t) (poly_at t)) place c.requires.put w)))
+    c.in_err-right.ensures.made)
 
-pub returns : goal.returns
-returns c = λ rels.
+pub returns-clause-walks : goal.returns-clause-walks
+returns-clause-walks c = λ rels.
     let t = c.args.table.now in
     let h = step t c.args.j (number_of c.args.up) in
-    let list : c.deref.result.now ≡ in_y t.level (generators t) h =
-    c.deref.ensures.value ∙ c.requires.made in
     let place : c.index.result.now ≡ h c.args.k =
     c.index.ensures ∙ ap (λ i. get_or c.args.made.now.polys.items (c.args.k - i) c.index.result.now) c.level.ensures.level
     ∙ place_holds t.level (suc (last_of t) - t.level) c.args.k h c.args.made.now.polys.items
     c.index.result.now (omega arith) (omega arith) c.requires.polys in
     compared_as rels t c.step_id-identity.result (step_id c.args.up c.args.j c.args.k) c.in_ok-left.left
     c.in_ok-right.right c.compare.result c.step_id-identity.ensures
-    (c.in_ok-left.ensures.0
-    ∙ put_same c.lend.result.now (poly_at t c.args.k) c.deref.result.now (in_y t.level (generators t) h)
-    c.lend.ensures list ∙ step_left t c.args.j c.args.k c.args.up)
-    (c.in_ok-right.ensures.0
-    ∙ put_same c.index.result.now (h c.args.k) c.args.list.now (in_x t.level (generators t) (poly_at t))
-    place c.requires.list ∙ step_right rels t c.args.j c.args.k c.args.up)
+    (c.in_ok-left.ensures.made.0
+    ∙ put_same c.lend.result.now (poly_at t c.args.k) c.args.made.now.in_y (in_y t.level (generators t) h)
+    c.lend.ensures c.requires.in_y ∙ step_left t c.args.j c.args.k c.args.up)
+    (c.in_ok-right.ensures.made.0
+    ∙ put_same c.index.result.now (h c.args.k) c.args.put.now (in_x t.level (generators t) (poly_at t))
+    place c.requires.put ∙ step_right rels t c.args.j c.args.k c.args.up)
     (step_fits t c.args.j c.args.k c.args.up
     (λ w. elim w [
-      | inl a ↦ c.in_ok-left.ensures.1
+      | inl a ↦ c.in_ok-left.ensures.made.1
           (put_overflows (poly_at t c.args.k) c.lend.result.now (in_y t.level (generators t) h)
-          c.deref.result.now (sym c.lend.ensures) (sym list) a)
-      | inr b ↦ c.in_ok-right.ensures.1
+          c.args.made.now.in_y (sym c.lend.ensures) (sym c.requires.in_y) a)
+      | inr b ↦ c.in_ok-right.ensures.made.1
           (put_overflows (h c.args.k) c.index.result.now (in_x t.level (generators t) (poly_at t))
-          c.args.list.now (sym place) (sym c.requires.list) b)
+          c.args.put.now (sym place) (sym c.requires.put) b)
     ]))
     c.compare.ensures
