@@ -1,0 +1,32 @@
+use Rattle.std.proofs.Common.{◌≡◌, ◌-◌, ◌∙◌, suc, arith}
+use Rattle.std.proofs.lemmas.Result.{err_from_is_err_and}
+use Rattle.hall_table.specs.Tabled.{last_of}
+use Rattle.identity_check.specs.Signs.{last_id}
+use Rattle.identity_check.specs.Events.Event.{tries}
+use Rattle.identity_check.proofs.Stretches.{halt_each, none_each, each_ends}
+use Rattle.identity_check.proofs.last_letters.last_letters.Goals as goal
+
+pub returns-in_err-last_letter : goal.returns-in_err-last_letter
+returns-in_err-last_letter c = λ rels.
+    let t = c.args.table.now in
+    let p = err_from_is_err_and c.from_residual-in_err-last_letter.result
+    c.from_residual-in_err-last_letter.ensures.1 in
+    rw (p.1, p.2)
+    (halt_each rels t (λ k. tries (last_id c.args.up c.args.j k)) t.level (suc (last_of t) - t.level) c.loop-k.k
+    c.in_err-last_letter.field-0.0 (omega arith) (omega arith) (c.loop-k.invariant.walked rels)
+    (c.in_err-last_letter.ensures.walks rels))
+
+pub loop-k-preserved : goal.loop-k-preserved
+loop-k-preserved c = record {
+  put = c.in_ok-last_letter.ensures.kept ∙ c.loop-k.invariant.put;
+  walked = λ rels.
+      none_each rels c.args.table.now (λ k. tries (last_id c.args.up c.args.j k))
+      c.args.table.now.level c.loop-k.k (omega arith) (c.loop-k.invariant.walked rels)
+      (c.in_ok-last_letter.ensures.walks rels);
+}
+
+pub returns : goal.returns
+returns c = λ rels.
+    let t = c.args.table.now in
+    let e : c.loop-k.k - t.level ≡ suc (last_of t) - t.level = omega arith in
+    each_ends rels t (λ k. tries (last_id c.args.up c.args.j k)) c.loop-k.k e (c.loop-k.invariant.walked rels)

@@ -1,0 +1,15 @@
+use Rattle.std.proofs.Common.{◌++◌, ◌-◌, ◌≡◌, ◌∙◌, ap, map, arith}
+use Rattle.nil_word.specs.Exponents.{numbers}
+use Rattle.binom_poly.specs.Variable.{y_of}
+use Rattle.identity_check.proofs.Pushing.{push_y}
+use Rattle.identity_check.proofs.listing.push_ys.Goals as goal
+
+pub loop-k-preserved : goal.loop-k-preserved
+loop-k-preserved c =
+    push_y c.loop-k.vars.items c.args.vars.now.items c.push.new.self.items c.args.low c.loop-k.k
+    c.y_of.result (omega arith) c.y_of.ensures c.loop-k.invariant c.in_ok-push.ensures.items
+
+pub returns : goal.returns
+returns c =
+    let e : c.loop-k.k - c.args.low ≡ c.args.end - c.args.low = omega arith in
+    c.loop-k.invariant ∙ ap (λ d. c.args.vars.now.items ++ map y_of (numbers c.args.low d)) e

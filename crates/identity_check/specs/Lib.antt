@@ -1,0 +1,11 @@
+pub mod Assigned
+pub mod Sides
+pub mod Overflowing
+pub mod Events
+pub mod Failures
+pub mod Evidence
+pub mod Points
+pub mod Halts
+pub mod Signs
+pub mod Pairs
+pub mod Verdicts

@@ -1,0 +1,28 @@
+//! Whether a table multiplies in a presentation, by identities between polynomials.
+#![tactic(auto)]
+
+mod checking;
+mod comparing;
+mod failure;
+mod halt;
+mod identity;
+mod last_letters;
+pub mod laws;
+mod listing;
+mod making;
+mod pairs;
+mod steps;
+#[cfg(test)]
+mod tests;
+mod units;
+mod verdict;
+mod walking;
+
+pub use checking::check;
+pub use failure::{At, Failure};
+pub use identity::Identity;
+use std::alloc::AllocError;
+pub use verdict::Verdict;
+
+/// Want of memory.
+pub type Memory = AllocError;
