@@ -57,7 +57,8 @@ pub arrays_from_test : (vs : List Value) → list_all (λ v. is_some (as_array (
     → All IsArray (map view vs)
 arrays_from_test [] h = All-nil IsArray
 arrays_from_test (v ∷ vs) h =
-    let both = both_parts (is_some (as_array (view v))) (list_all (λ v. is_some (as_array (view v))) vs) h in
+    let both = both_parts (is_some (as_array (view v))) (list_all (λ v. is_some (as_array (view v)))
+    vs) h in
     All-cons IsArray (view v) (map view vs) (is_array (view v) both.0) (arrays_from_test vs both.1)
 
 pub test_from_arrays : (vs : List Value) → All IsArray (map view vs)

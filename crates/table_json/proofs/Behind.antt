@@ -5,7 +5,8 @@ use Rattle.std.specs.Prelude.{slice_get}
 use Rattle.binom_poly.specs.declared.term.Term.{Term}
 use Rattle.table_json.specs.Reading.{last_monomial}
 
-pub last_monomial-append : (ts : List Term) (t : Term) → last_monomial (ts ++ t ∷ []) ≡ Some t.monomial
+pub last_monomial-append : (ts : List Term) (t : Term)
+    → last_monomial (ts ++ t ∷ []) ≡ Some t.monomial
 last_monomial-append [] t = refl
 last_monomial-append (u ∷ []) t = refl
 last_monomial-append (u ∷ v ∷ ts) t = last_monomial-append (v ∷ ts) t

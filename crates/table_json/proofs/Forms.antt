@@ -39,7 +39,8 @@ is_monomial n low (p ∷ ps) most up right =
       is_monomial n p.var ps most up.1 (All-tail (IsPart n) p ps right),
     )
 
-term_is : (n : ℕ) (b : Option (List Part)) (d : Data) (t : Term) → n ≤ 48 → SaysTerm n b d t → IsTerm t
+term_is : (n : ℕ) (b : Option (List Part)) (d : Data) (t : Term) → n ≤ 48 → SaysTerm n b d t
+    → IsTerm t
 term_is n b d t most says = record {
   monomial = is_monomial n 0 t.monomial most says.order.ascend says.form.parts;
   not_zero = says.coefficient.not_zero;
@@ -65,7 +66,8 @@ is_polynomial n b ds [] most h = tt
 is_polynomial n b ds (t ∷ ts) most h = is_polynomial_from n b ds t ts most h
 
 -- ---- as they are written
-terms_written : (n : ℕ) (b : Option (List Part)) (ds : List Data) (ts : List Term) → SaysTerms n b ds ts
+terms_written : (n : ℕ) (b : Option (List Part)) (ds : List Data) (ts : List Term)
+    → SaysTerms n b ds ts
     → ds ≡ map term_data ts
 terms_written n b [] [] h = refl
 terms_written n b [] (t ∷ ts) h = absurd h
@@ -101,11 +103,13 @@ held n k m least most h =
             subst (IsHeld n) (sym (alone_is (y_of k) m y))
             (All-cons V record { var = y_of k; exp = 1 } [] (lower_y n k least most) (All-nil V))
         | inr y ↦ λ i q l.
-            lower_more n k (get_or m i q).var least most (h (not_alone k m x) (not_alone (y_of k) m y) i q l)
+            lower_more n k (get_or m i q).var least most (h (not_alone k m x) (not_alone (y_of k) m
+            y) i q l)
       ]
     ]
 
-pub right_parts : (n low : ℕ) (ps : List Part) → IsMonomialAbove low ps → IsHeld n ps → All (IsPart n) ps
+pub right_parts : (n low : ℕ) (ps : List Part) → IsMonomialAbove low ps → IsHeld n ps
+    → All (IsPart n) ps
 unfolding IsMonomialAbove
 right_parts n low [] form vars = All-nil (IsPart n)
 right_parts n low (p ∷ ps) form vars =
@@ -149,7 +153,8 @@ terms_say n [] form vars = tt
 terms_say n (t ∷ ts) form vars = say_from n None t ts tt form vars
 
 pub poly_held : (n k : ℕ) (p : List Term) → 1 ≤ k → k ≤ n → HasShape 1 k p → AreHeld n p
-poly_held n k p least most shape = λ i t l. held n k (get_or p i t).monomial least most (shape.others i t l)
+poly_held n k p least most shape = λ i t l. held n k (get_or p i t).monomial least most
+    (shape.others i t l)
 
 pub polys_say : (n k : ℕ) (ps : List (List Term)) → 1 ≤ k → k + length ps ≤ n + 1
     → ((i : ℕ) → i < length ps → IsPolynomial (get_or ps i []))
@@ -166,5 +171,6 @@ polys_say n k (p ∷ ps) least most forms shapes =
             (poly_held n k p least (omega arith) first),
       ),
       polys_say n (k + 1) ps (omega arith) (omega arith) (λ i l. forms (suc i) (omega arith))
-          (λ i l. subst (λ j. HasShape 1 j (get_or ps i [])) (omega arith) (shapes (suc i) (omega arith))),
+          (λ i l. subst (λ j. HasShape 1 j (get_or ps i [])) (omega arith) (shapes (suc i) (omega
+          arith))),
     )

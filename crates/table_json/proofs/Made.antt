@@ -23,7 +23,8 @@ parts_data-append [] qs = refl
 parts_data-append (p ∷ ps) qs =
     ap (λ ds. string (variable_text p.var) ∷ number (unsigned p.exp) ∷ ds) (parts_data-append ps qs)
 
-pub data_of-push : (vs : List Value) (v : Value) → data_of (vs ++ v ∷ []) ≡ data_of vs ++ view v ∷ []
+pub data_of-push : (vs : List Value) (v : Value)
+    → data_of (vs ++ v ∷ []) ≡ data_of vs ++ view v ∷ []
 data_of-push vs v = map-append view vs (v ∷ [])
 
 -- two values for a part
@@ -45,7 +46,8 @@ parts_more ds es fs ps i d l g h =
     h ∙ ap (λ xs. xs ++ parts_data (get_or ps i d ∷ [])) g
     ∙ append_assoc ds (parts_data (take i ps)) (parts_data (get_or ps i d ∷ []))
     ∙ ap (λ xs. ds ++ xs)
-    (sym (parts_data-append (take i ps) (get_or ps i d ∷ [])) ∙ ap parts_data (sym (take_more ps i d l)))
+    (sym (parts_data-append (take i ps) (get_or ps i d ∷ []))
+    ∙ ap parts_data (sym (take_more ps i d l)))
 
 pub parts_all : (ds es : List Data) (ps : List Part) (i : ℕ) → length ps ≤ i
     → es ≡ ds ++ parts_data (take i ps) → es ≡ ds ++ parts_data ps

@@ -45,7 +45,8 @@ joins_begin n all ps h = h
 pub leaves_begin : (n : ℕ) (all : List Data) → Leaves n all all
 leaves_begin n all ps h = (ps, h)
 
-pub joins_more : (n : ℕ) (all : List Data) (done : List Part) (a b : Data) (rest : List Data) (p : Part)
+pub joins_more : (n : ℕ) (all : List Data) (done : List Part) (a b : Data) (rest : List Data) (p :
+    Part)
     → IsPart n p → a ≡ string (variable_text p.var) → b ≡ number (unsigned p.exp)
     → Joins n all done (a ∷ b ∷ rest) → Joins n all (done ++ p ∷ []) rest
 joins_more n all done a b rest p is name exp join ps h =
@@ -81,7 +82,8 @@ front_is n a b rest (p ∷ ps) h fails =
 pub none_with : (n : ℕ) (all : List Data) (a b : Data) (rest : List Data)
     → ((p : Part) → IsPart n p → a ≡ string (variable_text p.var) → b ≢ number (unsigned p.exp))
     → Leaves n all (a ∷ b ∷ rest) → (ps : List Part) → ¬ AreParts n all ps
-none_with n all a b rest fails leave ps h = let left = leave ps h in front_is n a b rest left.0 left.1 fails
+none_with n all a b rest fails leave ps h = let left = leave ps h in front_is n a b rest left.0
+    left.1 fails
 
 one_is : (n : ℕ) (a : Data) (ps : List Part) → ¬ AreParts n (a ∷ []) ps
 one_is n a [] h = let e = h.written in cc
@@ -95,4 +97,8 @@ none_odd n all a leave ps h = let left = leave ps h in one_is n a left.0 left.1
 pub joins_end : (n : ℕ) (all : List Data) (done : List Part) → Joins n all done []
     → AreParts n all done
 joins_end n all done join =
-    subst (AreParts n all) (append-nil done) (join [] record { written = refl; parts = All-nil (IsPart n) })
+    subst (AreParts n all) (append-nil done) (join [] record {
+      written = refl;
+      parts = All-nil
+          (IsPart n);
+    })

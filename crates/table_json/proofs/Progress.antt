@@ -49,28 +49,36 @@ pub says_on-more : (n : ℕ) (vs : List Value) (i : ℕ) (done : List Term) (v :
     → i < length vs → v ≡ get_or vs i v → SaysTerm n (last_monomial done) (view v) t
     → SaysOn n vs i done → SaysOn n vs (i + 1) (done ++ t ∷ [])
 says_on-more n vs i done v t l e says on ts h =
-    let rest = subst (λ b. SaysTerms n b (drop (i + 1) (data_of vs)) ts) (last_monomial-append done t) h in
+    let rest = subst (λ b. SaysTerms n b (drop (i + 1) (data_of vs)) ts) (last_monomial-append done
+    t) h in
     subst (SaysTerms n None (data_of vs)) (sym (append_assoc done (t ∷ []) ts))
     (on (t ∷ ts)
-    (subst (λ ds. SaysTerms n (last_monomial done) ds (t ∷ ts)) (sym (drop_at vs i v l e)) (says, rest)))
+    (subst (λ ds. SaysTerms n (last_monomial done) ds (t ∷ ts)) (sym (drop_at vs i v l e)) (
+      says,
+      rest,
+    )))
 
 pub refuses_on-more : (n : ℕ) (vs : List Value) (i : ℕ) (done : List Term) (v : Value) (t : Term)
     → i < length vs → v ≡ get_or vs i v → SaysTerm n (last_monomial done) (view v) t
     → RefusesOn n vs i done → RefusesOn n vs (i + 1) (done ++ t ∷ [])
 refuses_on-more n vs i done v t l e says on f h =
-    let rest = subst (λ b. RefusesTerms n b (drop (i + 1) (data_of vs)) f) (last_monomial-append done t) h in
+    let rest = subst (λ b. RefusesTerms n b (drop (i + 1) (data_of vs)) f) (last_monomial-append
+    done t) h in
     on f
     (subst (λ ds. RefusesTerms n (last_monomial done) ds f) (sym (drop_at vs i v l e))
     (inr (t, says, rest)))
 
-pub refuses_on-here : (n : ℕ) (vs : List Value) (i : ℕ) (done : List Term) (v : Value) (f : TableFault)
+pub refuses_on-here : (n : ℕ) (vs : List Value) (i : ℕ) (done : List Term) (v : Value) (f :
+    TableFault)
     → i < length vs → v ≡ get_or vs i v → RefusesTerm n (last_monomial done) (view v) f
     → RefusesOn n vs i done → RefusesTerms n None (data_of vs) f
 refuses_on-here n vs i done v f l e refuses on =
     on f
-    (subst (λ ds. RefusesTerms n (last_monomial done) ds f) (sym (drop_at vs i v l e)) (inl refuses))
+    (subst (λ ds. RefusesTerms n (last_monomial done) ds f) (sym (drop_at vs i v l e)) (inl
+    refuses))
 
-pub says_on-end : (n : ℕ) (vs : List Value) (i : ℕ) (done : List Term) → length vs ≤ i → SaysOn n vs i done
+pub says_on-end : (n : ℕ) (vs : List Value) (i : ℕ) (done : List Term) → length vs ≤ i
+    → SaysOn n vs i done
     → SaysTerms n None (data_of vs) done
 says_on-end n vs i done l on =
     subst (SaysTerms n None (data_of vs)) (append-nil done)
@@ -92,12 +100,15 @@ says_polys_on-more n vs i done v p l e says on ps h =
     subst (SaysPolys n (data_of vs)) (sym (append_assoc done (p ∷ []) ps))
     (on (p ∷ ps) (subst (λ ds. SaysPolys n ds (p ∷ ps)) (sym (drop_at vs i v l e)) (says, h)))
 
-pub refuses_polys_on-more : (n : ℕ) (vs : List Value) (i : ℕ) (v : Value) (p : List Term) → i < length vs
-    → v ≡ get_or vs i v → SaysPoly n (view v) p → RefusesPolysOn n vs i → RefusesPolysOn n vs (i + 1)
+pub refuses_polys_on-more : (n : ℕ) (vs : List Value) (i : ℕ) (v : Value) (p : List Term)
+    → i < length vs
+    → v ≡ get_or vs i v → SaysPoly n (view v) p → RefusesPolysOn n vs i
+    → RefusesPolysOn n vs (i + 1)
 refuses_polys_on-more n vs i v p l e says on f h =
     on f (subst (λ ds. RefusesPolys n ds f) (sym (drop_at vs i v l e)) (inr (p, says, h)))
 
-pub refuses_polys_on-here : (n : ℕ) (vs : List Value) (i : ℕ) (v : Value) (f : TableFault) → i < length vs
+pub refuses_polys_on-here : (n : ℕ) (vs : List Value) (i : ℕ) (v : Value) (f : TableFault)
+    → i < length vs
     → v ≡ get_or vs i v → RefusesPoly n (view v) f → RefusesPolysOn n vs i
     → RefusesPolys n (data_of vs) f
 refuses_polys_on-here n vs i v f l e refuses on =

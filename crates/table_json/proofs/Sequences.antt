@@ -9,7 +9,8 @@ use Rattle.table_json.specs.Refusing.{SaysTerms, RefusesTerms, SaysPoly, Refuses
 use Rattle.table_json.proofs.Arrays.{array_of-same}
 use Rattle.table_json.proofs.Single.{says_term-same, refuses_term-no, refuses_term-same}
 
-pub says_terms-same : (n : ℕ) (b c : Option (List Part)) (ds : List Data) (ts us : List Term) → n ≤ 48
+pub says_terms-same : (n : ℕ) (b c : Option (List Part)) (ds : List Data) (ts us : List Term)
+    → n ≤ 48
     → SaysTerms n b ds ts → SaysTerms n c ds us → ts ≡ us
 says_terms-same n b c [] [] [] most g h = refl
 says_terms-same n b c [] [] (u ∷ us) most g h = absurd h
@@ -18,7 +19,8 @@ says_terms-same n b c (d ∷ ds) [] us most g h = absurd g
 says_terms-same n b c (d ∷ ds) (t ∷ ts) [] most g h = absurd h
 says_terms-same n b c (d ∷ ds) (t ∷ ts) (u ∷ us) most g h =
     ap (λ v. v ∷ ts) (says_term-same n b c d t u most g.0 h.0)
-    ∙ ap (λ vs. u ∷ vs) (says_terms-same n (Some t.monomial) (Some u.monomial) ds ts us most g.1 h.1)
+    ∙ ap (λ vs. u ∷ vs) (says_terms-same n (Some t.monomial) (Some u.monomial) ds ts us most g.1
+    h.1)
 
 pub refuses_terms-no : (n : ℕ) (b : Option (List Part)) (ds : List Data) (ts : List Term)
     (f : TableFault) → n ≤ 48 → SaysTerms n b ds ts → RefusesTerms n b ds f → ⊥
@@ -30,7 +32,8 @@ refuses_terms-no n b (d ∷ ds) (t ∷ ts) f most g (inr later) =
     refuses_terms-no n (Some t.monomial) ds ts f most g.1
     (subst (λ (u : Term). RefusesTerms n (Some u.monomial) ds f) same later.2)
 
-pub refuses_terms-same : (n : ℕ) (b : Option (List Part)) (ds : List Data) (f g : TableFault) → n ≤ 48
+pub refuses_terms-same : (n : ℕ) (b : Option (List Part)) (ds : List Data) (f g : TableFault)
+    → n ≤ 48
     → RefusesTerms n b ds f → RefusesTerms n b ds g → f ≡ g
 refuses_terms-same n b [] f g most h k = absurd h
 refuses_terms-same n b (d ∷ ds) f g most (inl r) (inl s) = refuses_term-same n b d f g r s
@@ -44,7 +47,8 @@ refuses_terms-same n b (d ∷ ds) f g most (inr one) (inr two) =
     (subst (λ (u : Term). RefusesTerms n (Some u.monomial) ds g) same two.2)
 
 -- ---- polynomials
-says_poly-same : (n : ℕ) (d : Data) (p q : List Term) → n ≤ 48 → SaysPoly n d p → SaysPoly n d q → p ≡ q
+says_poly-same : (n : ℕ) (d : Data) (p q : List Term) → n ≤ 48 → SaysPoly n d p → SaysPoly n d q
+    → p ≡ q
 says_poly-same n d p q most g h =
     let same = array_of-same g.0 h.0 (sym g.1 ∙ h.1) in
     says_terms-same n None None h.0 p q most (subst (λ ds. SaysTerms n None ds p) same g.2) h.2
@@ -61,7 +65,8 @@ refuses_poly-same n d f g most h k =
     let same = array_of-same h.0 k.0 (sym h.1 ∙ k.1) in
     refuses_terms-same n None k.0 f g most (subst (λ ds. RefusesTerms n None ds f) same h.2) k.2
 
-pub says_polys-same : (n : ℕ) (ds : List Data) (ps qs : List (List Term)) → n ≤ 48 → SaysPolys n ds ps
+pub says_polys-same : (n : ℕ) (ds : List Data) (ps qs : List (List Term)) → n ≤ 48
+    → SaysPolys n ds ps
     → SaysPolys n ds qs → ps ≡ qs
 says_polys-same n [] [] [] most g h = refl
 says_polys-same n [] [] (q ∷ qs) most g h = absurd h

@@ -16,12 +16,14 @@ use Rattle.table_json.proofs.Pairs.{parts_data-same}
 abbrev written_list : List ℕ → List Part → List Data
 written_list c ps = string c ∷ parts_data ps
 
-lists_same : (n : ℕ) (d : Data) (c e : List ℕ) (ps qs : List Part) → HasForm n d c ps → HasForm n d e qs
+lists_same : (n : ℕ) (d : Data) (c e : List ℕ) (ps qs : List Part) → HasForm n d c ps
+    → HasForm n d e qs
     → written_list c ps ≡ written_list e qs
 lists_same n d c e ps qs g h =
     array_of-same (written_list c ps) (written_list e qs) (sym g.written ∙ h.written)
 
-text_same : (n : ℕ) (d : Data) (c e : List ℕ) (ps qs : List Part) → HasForm n d c ps → HasForm n d e qs
+text_same : (n : ℕ) (d : Data) (c e : List ℕ) (ps qs : List Part) → HasForm n d c ps
+    → HasForm n d e qs
     → c ≡ e
 text_same n d c e ps qs g h = let lists = lists_same n d c e ps qs g h in cc
 
@@ -34,7 +36,8 @@ parts_same n d c e ps qs most g h =
 
 term_same : (t u : Term) → t.monomial ≡ u.monomial → t.coefficient ≡ u.coefficient → t ≡ u
 term_same t u e f =
-    ap (λ (m : List Part). let r : Term = record { monomial = m; coefficient = t.coefficient } in r) e
+    ap (λ (m : List Part). let r : Term = record { monomial = m; coefficient = t.coefficient } in r)
+    e
     ∙ ap (λ (z : ℤ). let r : Term = record { monomial = u.monomial; coefficient = z } in r) f
 
 pub says_term-same : (n : ℕ) (b c : Option (List Part)) (d : Data) (t u : Term) → n ≤ 48
@@ -45,7 +48,8 @@ says_term-same n b c d t u most g h =
     term_same t u (parts_same n d _ _ t.monomial u.monomial most g.form h.form)
     (signed_same t.coefficient u.coefficient g.coefficient.within h.coefficient.within texts)
 
-pub refuses_term-no : (n : ℕ) (b : Option (List Part)) (d : Data) (t : Term) (f : TableFault) → n ≤ 48
+pub refuses_term-no : (n : ℕ) (b : Option (List Part)) (d : Data) (t : Term) (f : TableFault)
+    → n ≤ 48
     → SaysTerm n b d t → RefusesTerm n b d f → ⊥
 refuses_term-no n b d t f most says (form fails) = fails _ _ says.form
 refuses_term-no n b d t f most says (number c ps has fails) =

@@ -47,7 +47,8 @@ says_polys n d t says =
     subst (λ j. HasShape 1 (1 + i) (get_or t.polys j [])) (omega arith)
     (shaped (1 + i) (omega arith) (omega arith)))
 
-pub said_table : (n : ℕ) (d : Data) (ds : List Data) (t : Tabled) → HasHeads n d → HasPolynomials n d ds
+pub said_table : (n : ℕ) (d : Data) (ds : List Data) (t : Tabled) → HasHeads n d
+    → HasPolynomials n d ds
     → SaysPolys n ds t.polys → t.level ≡ 1 → IsTabled t → SaysTable n d t
 said_table n d ds t heads has says one table =
     let written = polys_written n ds t.polys says in
@@ -118,7 +119,8 @@ at_generators n d g given fails (generators is nor) = refl
 at_generators n d g given fails (level is has nor) = absurd (fails has)
 at_generators n d g given fails (polynomials heads nor) = absurd (fails heads.generators)
 at_generators n d g given fails (term ds f heads has r) = absurd (fails heads.generators)
-at_generators n d g given fails (shape ds ps k heads has says first) = absurd (fails heads.generators)
+at_generators n d g given fails (shape ds ps k heads has says first) = absurd (fails
+    heads.generators)
 
 at_level : (n : ℕ) (d : Data) (g : TableFault) → HasFormat d → HasGenerators n d → ¬ HasLevel d
     → RefusesTable n d g → Field Level ≡ g
@@ -151,11 +153,13 @@ at_term n d es f g most given found q (shape ds ps k heads has says first) =
     absurd (refuses_polys-no n ds ps f most says
     (subst (λ cs. RefusesPolys n cs f) (arrays_same n d es ds found has) q))
 
-at_shape : (n : ℕ) (d : Data) (es : List Data) (qs : List (List Term)) (j : ℕ) (g : TableFault) → n ≤ 48
+at_shape : (n : ℕ) (d : Data) (es : List Data) (qs : List (List Term)) (j : ℕ) (g : TableFault)
+    → n ≤ 48
     → HasHeads n d → HasPolynomials n d es → SaysPolys n es qs → IsFirstUnshaped 1 qs j
     → RefusesTable n d g → Shape j ≡ g
 at_shape n d es qs j g most given found also first (format nor) = absurd (nor given.format)
-at_shape n d es qs j g most given found also first (generators is nor) = absurd (nor given.generators)
+at_shape n d es qs j g most given found also first (generators is nor) = absurd (nor
+    given.generators)
 at_shape n d es qs j g most given found also first (level is has nor) = absurd (nor given.level)
 at_shape n d es qs j g most given found also first (polynomials heads nor) = absurd (nor es found)
 at_shape n d es qs j g most given found also first (term ds h heads has r) =

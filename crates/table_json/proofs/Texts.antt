@@ -22,7 +22,8 @@ text_same n text t u most g h =
     says_table-same n h.value t u most
     (subst (λ d. SaysTable n d t) (json_same text g.value h.value g.json h.json) g.says) h.says
 
-pub refusal-no : (n : ℕ) (text : List ℕ) (t : Tabled) (f : TableFault) → n ≤ 48 → IsTableText n text t
+pub refusal-no : (n : ℕ) (text : List ℕ) (t : Tabled) (f : TableFault) → n ≤ 48
+    → IsTableText n text t
     → IsFirstRefusal n text f → ⊥
 refusal-no n text t f most says (json fails) = fails says.value says.json
 refusal-no n text t f most says (value d g is r) =
@@ -67,12 +68,14 @@ answer_only_fault n text d (Err g) most is said (inl m) f first = inl m
 answer_only_fault n text d (Err g) most is said (inr r) f first =
     inr (refusal-same n text g f most (value d g is r) first)
 
-pub no_json_only : (n : ℕ) (text : List ℕ) (f : TableFault) → (f ≡ Memory) ⊎ ((f ≡ Json) × ((d : Data) → ¬ IsJson text d))
+pub no_json_only : (n : ℕ) (text : List ℕ) (f : TableFault)
+    → (f ≡ Memory) ⊎ ((f ≡ Json) × ((d : Data) → ¬ IsJson text d))
     → (t : Tabled) → IsTableText n text t → f ≡ Memory
 no_json_only n text f (inl m) t says = m
 no_json_only n text f (inr e) t says = absurd (e.1 says.value says.json)
 
-pub no_json_fault : (n : ℕ) (text : List ℕ) (f : TableFault) → (f ≡ Memory) ⊎ ((f ≡ Json) × ((d : Data) → ¬ IsJson text d))
+pub no_json_fault : (n : ℕ) (text : List ℕ) (f : TableFault)
+    → (f ≡ Memory) ⊎ ((f ≡ Json) × ((d : Data) → ¬ IsJson text d))
     → (f ≡ Memory) ⊎ IsFirstRefusal n text f
 no_json_fault n text f (inl m) = inl m
 no_json_fault n text f (inr e) = inr (subst (IsFirstRefusal n text) (sym e.0) (json e.1))

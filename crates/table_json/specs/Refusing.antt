@@ -16,7 +16,8 @@
 --   HasPolynomials n d ds   the polynomials are the arrays ds, one for each generator
 --   RefusesTable n d f      f is the first refusal of the value d
 --   IsFirstRefusal n text f f is the first refusal of the text
--- d value · ds values · n generators · p part, polynomial · ps parts, polynomials · t term · f fault
+-- d value · ds values · n generators · p part, polynomial · ps parts, polynomials · t term
+-- f fault
 use Rattle.std.specs.Prelude.{◌≡◌, ◌≢◌, ◌⊎◌, ℕ, ◌+◌, ◌<◌, ◌≤◌, ℤ, pos, List, [], ◌∷◌, length, codes, Option, Some, None, IsTrue, All}
 use Rattle.std.specs.declared.cmp.Ordering.TheVariants.{Less}
 use Rattle.std.specs.Fmt.{signed_decimal}

@@ -22,7 +22,8 @@ returns-then-number-eq0 c z is =
       | then-number-eq0-via-then-number-eq0 w ↦
           is.not_zero (sym same ∙ machine_is c.in-Ok.number 0 small w.if-number-eq0.true)
       | then-number-eq0-via-else-number-eq0+then-number w ↦
-          let lowest : c.in-Ok.number ≡ negsuc (2 ^ 127 - 1) = machine_is c.in-Ok.number _ small w.if-number.true in
+          let lowest : c.in-Ok.number ≡ negsuc (2 ^ 127 - 1) = machine_is c.in-Ok.number _ small
+          w.if-number.true in
           omega (arith, ap unsigned_abs lowest, small)
     ]
 
@@ -34,4 +35,5 @@ returns-else-eq c z is =
     let small : IsNumber c.in-Ok.number = subst IsNumber (sym same) is.within in
     let text : c.format.result.now ≡ c.args.text.now =
     c.format.ensures.text ∙ ap signed_decimal (held c.in-Ok.number small ∙ same) ∙ sym is.decimal in
-    false≢true (sym c.if-eq.false ∙ c.eq.ensures ∙ (bytes_eq-Decides c.format.result.now c.args.text.now).1 text)
+    false≢true (sym c.if-eq.false ∙ c.eq.ensures
+    ∙ (bytes_eq-Decides c.format.result.now c.args.text.now).1 text)

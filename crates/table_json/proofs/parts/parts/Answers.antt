@@ -34,7 +34,8 @@ parts-preserved c =
     let is = c.in-Some-part.ensures in
     record {
       joins =
-          subst (λ (done : List Part). Joins c.args.n all done rest) (sym c.in_ok-push.ensures.items)
+          subst (λ (done : List Part). Joins c.args.n all done rest) (sym
+          c.in_ok-push.ensures.items)
           (joins_more c.args.n all c.parts.found.items (view c.in-Some.variable_value.now)
           (view c.in-Some.exponent_value.now) rest c.in-Some-part.part is.0 is.1 is.2
           (subst (Joins c.args.n all c.parts.found.items) cut c.parts.invariant.joins));

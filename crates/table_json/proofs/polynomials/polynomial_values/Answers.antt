@@ -31,7 +31,8 @@ pub returns-then-are_arrays : goal.returns-then-are_arrays
 returns-then-are_arrays c =
     let vs = c.as_slice-values.result.now in
     record {
-      found = found_values (view c.args.value.now) _ c.in-Some-as_array.values.now.items vs c.in-Some.ensures
+      found = found_values (view c.args.value.now) _ c.in-Some-as_array.values.now.items vs
+          c.in-Some.ensures
           (as_array-some _ _ (sym c.in-Some-as_array.ensures)) c.as_slice-values.ensures.value;
       count = length-map vs view ∙ c.if-values-n.true;
       arrays = arrays_from_test vs (sym c.are_arrays.ensures ∙ c.if-are_arrays.true);
@@ -40,7 +41,8 @@ returns-then-are_arrays c =
 pub returns-else-values-n : goal.returns-else-values-n
 returns-else-values-n c ds has =
     let vs = c.as_slice-values.result.now in
-    let found = found_values (view c.args.value.now) _ c.in-Some-as_array.values.now.items vs c.in-Some.ensures
+    let found = found_values (view c.args.value.now) _ c.in-Some-as_array.values.now.items vs
+    c.in-Some.ensures
     (as_array-some _ _ (sym c.in-Some-as_array.ensures)) c.as_slice-values.ensures.value in
     let same = same_values c.args.n (view c.args.value.now) vs ds found has in
     elim c.else-values-n.branch [

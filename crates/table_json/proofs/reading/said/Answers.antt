@@ -23,7 +23,8 @@ returns-in_err-polys-clause-refused c =
     let p = err_from_is_err_and c.from_residual.result c.from_residual.ensures.1 in
     rw (p.1, p.2) (elim c.in_err-polys.ensures.refused [
       | inl m ↦ inl m
-      | inr r ↦ inr (term (data_of c.in-Some-polynomial_values.values.now) c.in_err-polys.field-0.0 c.in_default.ensures
+      | inr r ↦ inr (term (data_of c.in-Some-polynomial_values.values.now) c.in_err-polys.field-0.0
+          c.in_default.ensures
           c.in-Some-polynomial_values.ensures r)
     ])
 
@@ -33,17 +34,20 @@ count n d ds ps has says = sym (says_polys-length n ds ps says) ∙ has.count
 
 pub shaped-requires-clause-nonempty : goal.shaped-requires-clause-nonempty
 shaped-requires-clause-nonempty c =
-    let many = count c.args.n _ _ c.in_ok-polys.polys.items c.in-Some-polynomial_values.ensures c.in_ok-polys.ensures.said in
+    let many = count c.args.n _ _ c.in_ok-polys.polys.items c.in-Some-polynomial_values.ensures
+    c.in_ok-polys.ensures.said in
     let least : 1 ≤ c.args.n = c.requires.least in
     omega (arith, many)
 
 pub shaped-requires-clause-most : goal.shaped-requires-clause-most
 shaped-requires-clause-most c =
-    let many = count c.args.n _ _ c.in_ok-polys.polys.items c.in-Some-polynomial_values.ensures c.in_ok-polys.ensures.said in
+    let many = count c.args.n _ _ c.in_ok-polys.polys.items c.in-Some-polynomial_values.ensures
+    c.in_ok-polys.ensures.said in
     let most : c.args.n ≤ 48 = c.requires.most in
     omega (arith, many)
 
-says : (n : ℕ) (d : Data) (ds : List Data) (ps : List (List Term)) (r : Result Tabled TableFault) → HasHeads n d
+says : (n : ℕ) (d : Data) (ds : List Data) (ps : List (List Term)) (r : Result Tabled TableFault)
+    → HasHeads n d
     → HasPolynomials n d ds → SaysPolys n ds ps → IfOk r (λ t. (t.level ≡ 1) × (t.polys ≡ ps))
     → IfOk r IsTabled → IfOk r (SaysTable n d)
 says n d ds ps (Err f) heads has said is form = tt
@@ -52,8 +56,10 @@ says n d ds ps (Ok t) heads has said is form =
 
 pub returns-clause-said : goal.returns-clause-said
 returns-clause-said c =
-    says c.args.n (view c.args.value.now) (data_of c.in-Some-polynomial_values.values.now) c.in_ok-polys.polys.items
-    c.shaped.result c.in_default.ensures c.in-Some-polynomial_values.ensures c.in_ok-polys.ensures.said c.shaped.ensures.table
+    says c.args.n (view c.args.value.now) (data_of c.in-Some-polynomial_values.values.now)
+    c.in_ok-polys.polys.items
+    c.shaped.result c.in_default.ensures c.in-Some-polynomial_values.ensures
+    c.in_ok-polys.ensures.said c.shaped.ensures.table
     c.shaped.ensures.form
 
 pub returns-clause-refused : goal.returns-clause-refused
@@ -63,6 +69,7 @@ returns-clause-refused c =
     (λ f h. elim h [
       | inl m ↦ inl m
       | inr found ↦ inr (subst (RefusesTable c.args.n d) (sym found.1)
-          (shape (data_of c.in-Some-polynomial_values.values.now) c.in_ok-polys.polys.items found.0 c.in_default.ensures
+          (shape (data_of c.in-Some-polynomial_values.values.now) c.in_ok-polys.polys.items found.0
+          c.in_default.ensures
           c.in-Some-polynomial_values.ensures c.in_ok-polys.ensures.said found.2))
     ]) c.shaped.ensures.refused

@@ -25,10 +25,13 @@ returns-in_err-term-clause-refused c =
       | inl m ↦ inl m
       | inr r ↦ inr (
         data_of vs,
-        array_is (view c.args.value.now) c.in-Some.values.now.items vs c.in-Some.ensures c.deref-value-items.ensures.value,
-        refuses_on-here c.args.n vs c.loop-value.value-index c.loop-value.terms.items c.value-item.result
+        array_is (view c.args.value.now) c.in-Some.values.now.items vs c.in-Some.ensures
+            c.deref-value-items.ensures.value,
+        refuses_on-here c.args.n vs c.loop-value.value-index c.loop-value.terms.items
+            c.value-item.result
             c.in_err-term.field-0.0 (omega arith) c.value-item.is
-            (subst (λ (ts : List Term). RefusesTerm c.args.n (last_monomial ts) (view c.value-item.result) c.in_err-term.field-0.0) c.as_slice.ensures.value r)
+            (subst (λ (ts : List Term). RefusesTerm c.args.n (last_monomial ts) (view
+            c.value-item.result) c.in_err-term.field-0.0) c.as_slice.ensures.value r)
             c.loop-value.invariant.refuses,
       )
     ])
@@ -38,15 +41,19 @@ loop-value-preserved c =
     let vs = c.deref-value-items.result.now in
     let i = c.loop-value.value-index in
     let done = c.loop-value.terms.items in
-    let says = subst (λ (ts : List Term). SaysTerm c.args.n (last_monomial ts) (view c.value-item.result) c.in_ok-term.term) c.as_slice.ensures.value c.in_ok-term.ensures.said in
+    let says = subst (λ (ts : List Term). SaysTerm c.args.n (last_monomial ts) (view
+    c.value-item.result) c.in_ok-term.term) c.as_slice.ensures.value c.in_ok-term.ensures.said
+    in
     record {
       says =
           subst (SaysOn c.args.n vs (i + 1)) (sym c.in_ok-push.ensures.items)
-          (says_on-more c.args.n vs i done c.value-item.result c.in_ok-term.term (omega arith) c.value-item.is says
+          (says_on-more c.args.n vs i done c.value-item.result c.in_ok-term.term (omega arith)
+          c.value-item.is says
           c.loop-value.invariant.says);
       refuses =
           subst (RefusesOn c.args.n vs (i + 1)) (sym c.in_ok-push.ensures.items)
-          (refuses_on-more c.args.n vs i done c.value-item.result c.in_ok-term.term (omega arith) c.value-item.is says
+          (refuses_on-more c.args.n vs i done c.value-item.result c.in_ok-term.term (omega arith)
+          c.value-item.is says
           c.loop-value.invariant.refuses);
     }
 
@@ -54,13 +61,16 @@ pub of-requires : goal.of-requires
 of-requires c =
     let vs = c.deref-value-items.result.now in
     is_polynomial c.args.n None (data_of vs) c.loop-value.terms.items c.requires.generators
-    (says_on-end c.args.n vs c.loop-value.value-index c.loop-value.terms.items (omega arith) c.loop-value.invariant.says)
+    (says_on-end c.args.n vs c.loop-value.value-index c.loop-value.terms.items (omega arith)
+    c.loop-value.invariant.says)
 
 pub returns-clause-said : goal.returns-clause-said
 returns-clause-said c =
     let vs = c.deref-value-items.result.now in (
       data_of vs,
-      array_is (view c.args.value.now) c.in-Some.values.now.items vs c.in-Some.ensures c.deref-value-items.ensures.value,
+      array_is (view c.args.value.now) c.in-Some.values.now.items vs c.in-Some.ensures
+          c.deref-value-items.ensures.value,
       subst (SaysTerms c.args.n None (data_of vs)) (sym c.of.ensures)
-          (says_on-end c.args.n vs c.loop-value.value-index c.loop-value.terms.items (omega arith) c.loop-value.invariant.says),
+          (says_on-end c.args.n vs c.loop-value.value-index c.loop-value.terms.items (omega arith)
+          c.loop-value.invariant.says),
     )

@@ -11,13 +11,15 @@ returns-in_default-clause-refused c =
 pub returns-in_default-2-clause-refused : goal.returns-in_default-2-clause-refused
 returns-in_default-2-clause-refused c =
     let none = rw c.in_default-2.is at c.in_ok-parts.ensures in
-    inr (form (λ s ps has. none ps (parts_of_form c.args.n _ c.in-Some.text.now s _ ps c.in-Some.ensures has)))
+    inr (form (λ s ps has. none ps (parts_of_form c.args.n _ c.in-Some.text.now s _ ps
+    c.in-Some.ensures has)))
 
 pub returns-in_default-coefficient-clause-refused :
     goal.returns-in_default-coefficient-clause-refused
 returns-in_default-coefficient-clause-refused c =
     let are = rw c.in-Some-2.is at c.in_ok-parts.ensures in
-    inr (number c.in-Some.text.now c.in-Some-2.parts.items (form_of c.args.n _ _ _ _ c.in-Some.ensures are)
+    inr (number c.in-Some.text.now c.in-Some-2.parts.items (form_of c.args.n _ _ _ _
+    c.in-Some.ensures are)
     c.in_default-coefficient.ensures)
 
 pub returns-in_default-next_monomial-clause-refused :

@@ -8,7 +8,8 @@ use Rattle.table_json.proofs.writing.poly_values.Goals as goal
 pub poly_value-requires : goal.poly_value-requires
 poly_value-requires c =
     subst (All HasParts) (sym c.lend.ensures)
-    (has_parts c.args.table.now c.loop-k.k c.last-k-end.ensures.form c.requires c.loop-k.invariant.least (omega arith))
+    (has_parts c.args.table.now c.loop-k.k c.last-k-end.ensures.form c.requires
+    c.loop-k.invariant.least (omega arith))
 
 pub loop-k-preserved : goal.loop-k-preserved
 loop-k-preserved c =
@@ -16,7 +17,9 @@ loop-k-preserved c =
     let polys = c.args.table.now.polys in
     let at : c.lend.result.now ≡ get_or polys (k - 1) [] =
     c.lend.ensures ∙ ap (λ j. get_or polys (k - j) []) c.requires in
-    let more = made_more poly_data polys (k - 1) [] c.loop-k.values.items c.push.new.self.items c.in_ok-value.value
-    (omega arith) c.loop-k.invariant.made (c.in_ok-value.ensures ∙ ap poly_data at) c.in_ok-push.ensures.items in
+    let more = made_more poly_data polys (k - 1) [] c.loop-k.values.items c.push.new.self.items
+    c.in_ok-value.value
+    (omega arith) c.loop-k.invariant.made (c.in_ok-value.ensures
+    ∙ ap poly_data at) c.in_ok-push.ensures.items in
     let j : k - 1 + 1 ≡ k + 1 - 1 = omega arith in
     record { least = omega arith; made = more ∙ ap (λ i. map poly_data (take i polys)) j }

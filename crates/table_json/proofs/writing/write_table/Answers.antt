@@ -12,7 +12,8 @@ pub returns-clause-text : goal.returns-clause-text
 returns-clause-text c =
     let is : view c.in_ok-value.value ≡ table_data c.args.table.now = c.in_ok-value.ensures.value in
     IfOk-weaker c.to_string.result _ _
-    (λ s h. h (ap has_float is ∙ table_plain c.args.table.now) ∙ ap compact_text is) c.to_string.ensures.text
+    (λ s h. h (ap has_float is ∙ table_plain c.args.table.now)
+    ∙ ap compact_text is) c.to_string.ensures.text
 
 pub returns-clause-again : goal.returns-clause-again
 returns-clause-again c =
@@ -22,7 +23,8 @@ returns-clause-again c =
       value = table_data c.args.table.now;
       json = record {
         utf8 = IsUtf8-string_bytes s;
-        value = h (subst (λ (d : Data). depth d ≤ 127) (sym is) (table_depth c.args.table.now)) ∙ ap (λ d. Some d) is;
+        value = h (subst (λ (d : Data). depth d ≤ 127) (sym is) (table_depth c.args.table.now))
+            ∙ ap (λ d. Some d) is;
       };
       says = table_said c.args.table.now c.in_ok-value.ensures.form c.requires;
     }) c.to_string.ensures.reads_back
