@@ -1,0 +1,12 @@
+pub mod Numerals
+pub mod Names
+pub mod Arrays
+pub mod Pairs
+pub mod Single
+pub mod Sequences
+pub mod Forms
+pub mod Tables
+pub mod Texts
+pub mod Behind
+pub mod Progress
+pub mod Made

@@ -1,0 +1,5 @@
+pub mod FaultTexts
+pub mod Format
+pub mod Saying
+pub mod Refusing
+pub mod Reading
