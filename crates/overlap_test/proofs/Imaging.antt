@@ -150,7 +150,8 @@ image_made p i l h a b d =
     same_entries n (with_syllables right (begun p l)) (image p i l)
     (length-with_syllables right (begun p l) ∙ size) (length-image p i l)
     (λ m low high.
-    let made = entry-with_syllables l n right (begun p l) (h.lawful i l a b) (omega arith) none m low in
+    let lawful = h.lawful i l a b in
+    let made = entry-with_syllables l n right (begun p l) lawful (omega arith) none m low in
     let first = entry-put (zeros n) l (pos 1) m (omega arith)
     (omega (arith, length-replicate n (pos 0))) low (entry-zeros n l) in
     let word = (relations_of p).right i l in
@@ -158,7 +159,8 @@ image_made p i l h a b d =
     ap (λ (ss : List Factor). count (word_of ss) m) (between-pair p i l a b d) in
     let added = (added_writes (exponents n word) l (pos 1) (omega arith)
     (omega (arith, length-exponents n word))).at m low in
-    omega (arith, ints, made, first, entry-zeros n m, counted, added, entry-exponents n word m low high))
+    let word_at = entry-exponents n word m low high in
+    omega (arith, ints, made, first, entry-zeros n m, counted, added, word_at))
 
 -- its entries are numbers
 small-with_syllables : (low high : ℕ) (right : List Syllable) (v : List ℤ) → IsRight low high right

@@ -21,7 +21,8 @@ of_numbers P low (suc d) m h a b =
           (omega arith)
     ]
 
-of_map : (P : ℕ × ℕ → Type 0) (g : ℕ → ℕ × ℕ) (xs : List ℕ) → All P (map g xs) → All (λ x. P (g x)) xs
+of_map : (P : ℕ × ℕ → Type 0) (g : ℕ → ℕ × ℕ) (xs : List ℕ) → All P (map g xs)
+    → All (λ x. P (g x)) xs
 of_map P g [] h = All-nil (λ x. P (g x))
 of_map P g (x ∷ xs) h =
     All-cons (λ y. P (g y)) x xs (All-head P (g x) (map g xs) h)

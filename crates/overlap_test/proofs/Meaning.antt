@@ -1,12 +1,8 @@
 -- What the two ways by the written order are by the table's values, and what follows for the group.
 --   c presentation with a table above level i · Q its powers · j < k, l generators above i
---   s factor · a b v x vectors · r outcome
-use Rattle.std.proofs.Common.{◌≡◌, ◌≢◌, ℕ, suc, ◌+◌, ◌<◌, ◌≤◌, Bool, true, false, ℤ, pos, List, [], ◌∷◌, length, All, refl, sym, ◌∙◌, ap, subst, inl, inr, arith, add-one}
-use Rattle.std.specs.Prelude.{Ok, Err, cond}
-use Rattle.std.specs.Cmp.Lexicographic.{pointwise}
-use Rattle.std.specs.Cmp.Rules.{signed_items}
-use Rattle.std.specs.Ordering.{int_eq}
-use Rattle.std.proofs.lemmas.Bool.{cases_Bool}
+--   s factor · a b v x vectors · o overlap
+use Rattle.std.proofs.Common.{◌≡◌, ◌≢◌, ℕ, suc, ◌+◌, ◌<◌, ◌≤◌, ℤ, pos, List, [], ◌∷◌, length, All, refl, sym, ◌∙◌, ap, subst, arith, add-one}
+use Rattle.std.specs.Prelude.{Ok}
 use Rattle.std.proofs.lemmas.List.Elements.{All-head, All-tail, All-weaker}
 use Rattle.nil_word.specs.declared.letter.Letter.{Letter}
 use Rattle.nil_word.specs.Words.{up, ordered, IsVector}
@@ -27,69 +23,18 @@ use Rattle.hall_table.specs.Multiplies.{Paired, IsChecked}
 use Rattle.hall_table.specs.Order.{multiplied}
 use Rattle.hall_table.specs.Values.{values}
 use Rattle.group_eval.specs.ByValues.{IsIn, MultipliedByValues, PoweredByValues}
-use Rattle.group_eval.specs.Order.{Outcome, powered}
+use Rattle.group_eval.specs.Order.{powered}
 use Rattle.group_eval.proofs.Outcomes.{and_then_ok}
 use Rattle.overlap_test.specs.declared.overlap.Overlap.{Overlap}
 use Rattle.overlap_test.specs.declared.level_result.LevelResult.{LevelResult}
 use Rattle.overlap_test.specs.declared.level_result.LevelResult.TheVariants.{Agree, Differ, Wide}
 use Rattle.overlap_test.specs.Inconsistent.{ShowsInconsistent}
 use Rattle.overlap_test.specs.Laws.{AgreementIs, DifferenceIs}
-use Rattle.overlap_test.specs.Verdict.{overlaps, overlap_of, judged, tried, verdict, IfAgree, IfDiffer}
+use Rattle.overlap_test.specs.Verdict.{overlaps, overlap_of, tried, verdict, IfAgree, IfDiffer}
 use Rattle.overlap_test.specs.Ways.{image, joined_to, collected_written, first_written, second_written}
+use Rattle.overlap_test.proofs.Judging.{judged_agree, judged_differ}
 use Rattle.overlap_test.proofs.Listing.{of_overlaps, overlap_in}
 use Rattle.overlap_test.proofs.Verdicts.{each_agrees, first_of_verdict, differs_not}
-
--- ---- what two ways say
-pub record AreEqualAt (r s : Outcome) : Type 0 where
-  pub way : List ℤ
-  pub first : r ≡ Ok way
-  pub second : s ≡ Ok way
-
-pub record DifferAt (i j k : ℕ) (r s : Outcome) (o : Overlap) : Type 0 where
-  pub left : List ℤ
-  pub right : List ℤ
-  pub first : r ≡ Ok left
-  pub second : s ≡ Ok right
-  pub different : left ≢ right
-  pub is : o ≡ overlap_of i j k left right
-
-judged_agree : (i j k : ℕ) (r s : Outcome) → judged i j k r s ≡ Agree → AreEqualAt r s
-judged_agree i j k (Ok a) (Ok b) h =
-    elim (cases_Bool (pointwise int_eq a b)) [
-      | inl t ↦
-          let e : a ≡ b = (signed_items a b).0 t in
-          record { way = a; first = refl; second = ap (λ (v : List ℤ). Ok v) (sym e) }
-      | inr f ↦
-          let g : Differ (overlap_of i j k a b) ≡ Agree =
-          sym (ap (λ (t : Bool). cond t Agree (Differ (overlap_of i j k a b))) f) ∙ h in
-          absurd (cc)
-    ]
-judged_agree i j k (Ok a) (Err at) h = absurd (cc)
-judged_agree i j k (Err at) s h = absurd (cc)
-
-judged_differ : (i j k : ℕ) (r s : Outcome) (o : Overlap) → judged i j k r s ≡ Differ o
-    → DifferAt i j k r s o
-judged_differ i j k (Ok a) (Ok b) o h =
-    elim (cases_Bool (pointwise int_eq a b)) [
-      | inl t ↦
-          let g : Agree ≡ Differ o =
-          sym (ap (λ (u : Bool). cond u Agree (Differ (overlap_of i j k a b))) t) ∙ h in
-          absurd (cc)
-      | inr f ↦
-          let g : Differ (overlap_of i j k a b) ≡ Differ o =
-          sym (ap (λ (u : Bool). cond u Agree (Differ (overlap_of i j k a b))) f) ∙ h in
-          record {
-            left = a;
-            right = b;
-            first = refl;
-            second = refl;
-            different = λ e.
-                let t : true ≡ false = sym ((signed_items a b).1 e) ∙ f in absurd (cc);
-            is = cc;
-          }
-    ]
-judged_differ i j k (Ok a) (Err at) o h = absurd (cc)
-judged_differ i j k (Err at) s o h = absurd (cc)
 
 -- ---- the ways by the table's values
 pub record Grounds (c : Paired) (i : ℕ) : Type 0 where
@@ -161,7 +106,8 @@ module _ (c : Paired) (i : ℕ) (g : Grounds c i) where
     pub first_is : (j k : ℕ) → i < j → j < k → k ≤ n → (x : List ℤ) → first_written c i j k ≡ Ok x
         → IsIn c x × (first_way rels (between c.pres) i f Q j k ≡ x)
     first_is j k a b d x is =
-        let rest = λ (v : List ℤ). collected_written c.table (image c.pres i) (between c.pres j k) v in
+        let rest = λ (v : List ℤ).
+        collected_written c.table (image c.pres i) (between c.pres j k) v in
         let (v, product, later) =
         and_then_ok (multiplied c.table (image c.pres i j) (image c.pres i k)) rest x is in
         let made = g.products (image c.pres i j) (image c.pres i k) v

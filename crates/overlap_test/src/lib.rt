@@ -1,5 +1,5 @@
-//! Consistency tests of one level: each overlap `(a_k a_j) a_i = a_k (a_j a_i)` of a generator `a_i`
-//! with two above it is collected in both ways, and the two vectors are compared.
+//! Consistency tests of one level: each overlap `(a_k a_j) a_i = a_k (a_j a_i)` of the level's
+//! generator with two above it is collected in both ways, and the two vectors are compared.
 //! Not promised: that the values on the way stay within 128 bits. Where one doesn't, the overlap is
 //! named.
 #![tactic(auto)]

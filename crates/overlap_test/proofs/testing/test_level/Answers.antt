@@ -23,7 +23,8 @@ returns-in_default c =
     let checked = c.table.ensures.multiplies in
     record {
       verdict = subst (IsVerdict d c.args.i) is
-          (c.verdicts.ensures.one d c.args.i lawful tabled checked c.requires.least c.requires.level);
+          (c.verdicts.ensures.one d c.args.i lawful tabled checked c.requires.least
+          c.requires.level);
       order = sym is;
       agree = subst (λ (r : LevelResult). IfAgree r (HaveEqualWays d c.args.i)) is
           (c.verdicts.ensures.agree d c.args.i lawful tabled checked c.requires.least

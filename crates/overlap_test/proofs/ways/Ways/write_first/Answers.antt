@@ -3,7 +3,7 @@ use Rattle.std.proofs.lemmas.Result.{err_from_is_err_and}
 use Rattle.nil_pres.specs.declared.syllable.Syllable.{Syllable}
 use Rattle.nil_pres.specs.Presented.{Presented, right_of}
 use Rattle.overlap_test.proofs.Collecting.{first_begins, first_err, collected_next, collected_err, collected_done}
-use Rattle.overlap_test.proofs.Rooms.{place, length-at_place, product_is, length-multiplied}
+use Rattle.overlap_test.proofs.Rooms.{place, length-at_place, product_is, refilled, length-multiplied}
 use Rattle.overlap_test.proofs.ways.Ways.write_first.Goals as goal
 
 pub index-left-requires : goal.index-left-requires
@@ -35,13 +35,8 @@ returns-in_err-multiply c =
           (product_is room c.args.j c.args.k c.index-left.result.now c.index-right.result.now _
           c.requires.below (omega arith) (omega arith) c.requires.most c.index-left.ensures
           c.index-right.ensures c.in_err-multiply.ensures.order));
-      room = record {
-        presented = room.presented;
-        checked = room.checked;
-        ws = c.in_err-multiply.ensures.ws;
-        images = room.images;
-        vectors = (ap length c.in_err-multiply.ensures.err ∙ room.vectors.0, room.vectors.1);
-      };
+      room = refilled room _ _ _ _ _ c.in_err-multiply.ensures.ws
+          (ap length c.in_err-multiply.ensures.err ∙ room.vectors.0, room.vectors.1);
     }
 
 pub loop-syllable-init : goal.loop-syllable-init
@@ -53,17 +48,11 @@ loop-syllable-init c =
     c.requires.below (omega arith) (omega arith) c.requires.most c.index-left.ensures
     c.index-right.ensures c.in_ok-multiply.ensures.order in
     record {
-      room = record {
-        presented = room.presented;
-        checked = room.checked;
-        ws = c.in_ok-multiply.ensures.ws;
-        images = room.images;
-        vectors = (
-          length-multiplied d c.index-left.result.now c.index-right.result.now c.multiply.new.out
-              room.checked c.in_ok-multiply.ensures.order,
-          room.vectors.1,
-        );
-      };
+      room = refilled room _ _ _ _ _ c.in_ok-multiply.ensures.ws (
+        length-multiplied d c.index-left.result.now c.index-right.result.now c.multiply.new.out
+            room.checked c.in_ok-multiply.ensures.order,
+        room.vectors.1,
+      );
       made = first_begins d c.args.i c.args.j c.args.k c.right_side-syllable-items.result.now
           c.multiply.new.out (omega arith) c.requires.above c.requires.most
           (c.right_side-syllable-items.ensures.right

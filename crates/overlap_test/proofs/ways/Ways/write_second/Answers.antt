@@ -3,7 +3,7 @@ use Rattle.nil_num.specs.Outcome.{Writes}
 use Rattle.hall_table.specs.Order.{multiplied}
 use Rattle.group_eval.specs.Order.{Outcome}
 use Rattle.overlap_test.specs.Ways.{image, second_written}
-use Rattle.overlap_test.proofs.Rooms.{place, at_place, length-at_place, length-written}
+use Rattle.overlap_test.proofs.Rooms.{place, at_place, length-at_place, refilled, length-written}
 use Rattle.overlap_test.proofs.ways.Ways.write_second.Goals as goal
 
 pub index-left-requires : goal.index-left-requires
@@ -40,18 +40,12 @@ returns c =
       order = subst (λ (o : Outcome). Writes c.multiply.result c.multiply.new.out o) is
           c.multiply.ensures.order;
       first = refl;
-      room = record {
-        presented = room.presented;
-        checked = room.checked;
-        ws = c.multiply.ensures.ws;
-        images = room.images;
-        vectors = (
-          room.vectors.0,
-          (
-            length-written d c.multiply.result left right c.args.self.now.second c.multiply.new.out
-                room.checked c.multiply.ensures.order c.multiply.ensures.err room.vectors.1.0,
-            room.vectors.1.1,
-          ),
-        );
-      };
+      room = refilled room _ _ _ _ _ c.multiply.ensures.ws (
+        room.vectors.0,
+        (
+          length-written d c.multiply.result left right c.args.self.now.second c.multiply.new.out
+              room.checked c.multiply.ensures.order c.multiply.ensures.err room.vectors.1.0,
+          room.vectors.1.1,
+        ),
+      );
     }
