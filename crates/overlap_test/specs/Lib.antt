@@ -1,0 +1,5 @@
+pub mod Ways
+pub mod Room
+pub mod Verdict
+pub mod Inconsistent
+pub mod Laws
