@@ -1,0 +1,13 @@
+//! Collection of words by rewriting alone: a word becomes the vector that stands for it, letter by
+//! letter. No table is known here. Not promised: that a long word is answered. At most 64 letters
+//! are taken, and 2^24 letters are appended.
+#![tactic(auto)]
+
+pub mod collect_fault;
+pub mod collecting;
+mod entries;
+mod rewriting;
+mod spent;
+
+pub use collect_fault::CollectFault;
+pub use collecting::{append, collect};
