@@ -11,7 +11,7 @@ use Rattle.nil_pres.specs.Presented.{Presented, IsPresented}
 use Rattle.nil_pres.specs.Relations.{relations_of}
 use Rattle.left_collect.specs.Collected.{collected, collection}
 use Rattle.left_collect.proofs.Parts.{ordered_from-zeros}
-use Rattle.left_collect.proofs.Running.{Keeps, collected_keeps}
+use Rattle.left_collect.proofs.Running.{collected_keeps}
 use Rattle.left_collect.proofs.Syllables.{above_pairs}
 
 pub letter_kept : (p : Presented) → IsPresented p → (i : ℕ) → 1 ≤ i → (b : ℕ) (v u : List ℤ)

@@ -1,6 +1,7 @@
 pub mod Images
 pub mod Conjugating
 pub mod Passing
+pub mod Factored
 pub mod Parts
 pub mod Meaning
 pub mod Running

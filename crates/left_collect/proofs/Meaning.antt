@@ -1,7 +1,7 @@
 -- An appended letter keeps congruence: the ordered word of a vector followed by a letter is
 -- congruent to that of the next vector followed by the word that is moved.
 --   i level · g k generators · a x letters · e exponent · v vector · w word
-use Rattle.std.proofs.Common.{◌≡◌, ℕ, zero, suc, ◌≤◌, ◌<◌, ◌+◌, ◌-◌, Bool, true, false, ℤ, pos, negsuc, ◌+ℤ◌, List, [], ◌∷◌, ◌++◌, length, replicate, if◌then◌else◌, refl, sym, ◌∙◌, ap, subst, append_assoc, append-nil, arith}
+use Rattle.std.proofs.Common.{◌≡◌, ℕ, zero, suc, ◌≤◌, ◌<◌, ◌-◌, Bool, true, false, ℤ, pos, negsuc, ◌+ℤ◌, List, [], ◌∷◌, ◌++◌, length, replicate, if◌then◌else◌, refl, sym, ◌∙◌, ap, append_assoc, append-nil, arith}
 use Rattle.std.proofs.lemmas.Int.{ints}
 use Rattle.std.proofs.lemmas.Bool.{and_parts}
 use Rattle.std.proofs.lemmas.List.Elements.{All-nil, All-cons, All-head, All-tail}
@@ -9,7 +9,7 @@ use Rattle.nil_word.specs.declared.letter.Letter.{Letter}
 use Rattle.nil_word.specs.Words.{up, down, opposite, inverse, power, ordered, IsIn, IsWordIn}
 use Rattle.nil_word.specs.Exponents.{entry, signed}
 use Rattle.nil_word.specs.Congruence.{Relations, IsAbove, Congruent, here}
-use Rattle.nil_word.proofs.Congruences.{trans, back, before, after, same, lower, cancels_after}
+use Rattle.nil_word.proofs.Congruences.{trans, before, after, same, lower, cancels_after}
 use Rattle.nil_word.proofs.Passing.{IsWordIn-from}
 use Rattle.left_collect.specs.Conjugates.{image, conjugated, is_empty, commutes}
 use Rattle.left_collect.specs.Collected.{behind, counted, cut, next, moved}

@@ -1,6 +1,6 @@
 -- A vector at a generator: its entries before, at and behind it, and its ordered word by these.
 --   g k generators · e exponent · a letter · v tail vectors · low high bounds of generators
-use Rattle.std.proofs.Common.{◌≡◌, ℕ, zero, suc, ◌≤◌, ◌<◌, ◌+◌, ◌-◌, ℤ, pos, negsuc, ◌+ℤ◌, List, [], ◌∷◌, ◌++◌, length, take, drop, replicate, get_or, slice_set, refl, sym, ◌∙◌, ap, subst, append_assoc, append-nil, arith}
+use Rattle.std.proofs.Common.{◌≡◌, ℕ, zero, suc, ◌≤◌, ◌+◌, ◌-◌, ℤ, pos, negsuc, ◌+ℤ◌, List, [], ◌∷◌, ◌++◌, length, take, drop, replicate, slice_set, refl, sym, ◌∙◌, ap, append_assoc, append-nil, arith}
 use Rattle.std.proofs.lemmas.List.{set_split, set-get_or, take_more_set, length-set, length-take-le, length-drop, length-append, length-replicate}
 use Rattle.std.proofs.lemmas.List.Elements.{All-nil, All-append, All-replicate}
 use Rattle.nil_word.specs.declared.letter.Letter.{Letter}
@@ -85,4 +85,9 @@ length-counted v a =
 
 pub length-cut : (v : List ℤ) (a : Letter) → a.number ≤ length v → length (cut v a) ≡ length v
 length-cut v a h =
-    omega (arith, length-counted v a, length-take-le a.number (counted v a) (omega (arith, length-counted v a)), length-replicate (length v - a.number) (pos 0), length-append (take a.number (counted v a)) (replicate (length v - a.number) (pos 0)))
+    let same = length-counted v a in
+    let front = length-take-le a.number (counted v a) (omega (arith, same)) in
+    let m : ℕ = length v - a.number in
+    let zeros = length-replicate m (pos 0) in
+    let both = length-append (take a.number (counted v a)) (replicate m (pos 0)) in
+    omega (arith, same, front, zeros, both)

@@ -1,9 +1,9 @@
 -- The central law: a word of higher generators goes past a letter as its image.
 --   a letter of generator g · k l generators · u w words
-use Rattle.std.proofs.Common.{◌≡◌, ℕ, zero, suc, ◌≤◌, ◌<◌, ◌+◌, ◌-◌, Bool, true, false, List, [], ◌∷◌, ◌++◌, if◌then◌else◌, refl, sym, ◌∙◌, ap, subst, append_assoc, append-nil, arith}
+use Rattle.std.proofs.Common.{◌≡◌, ℕ, zero, suc, ◌≤◌, ◌<◌, ◌+◌, Bool, true, false, List, [], ◌∷◌, ◌++◌, if◌then◌else◌, refl, sym, ap, subst, append_assoc, append-nil, arith}
 use Rattle.std.proofs.lemmas.List.Elements.{All-nil, All-cons, All-head, All-tail}
 use Rattle.nil_word.specs.declared.letter.Letter.{Letter}
-use Rattle.nil_word.specs.Words.{up, down, opposite, inverse, IsIn, IsWordIn}
+use Rattle.nil_word.specs.Words.{up, down, inverse, IsIn, IsWordIn}
 use Rattle.nil_word.specs.Congruence.{Relations, IsAbove, moves, Congruent, here}
 use Rattle.nil_word.proofs.Congruences.{trans, back, before, after, same, related, cancels_after, cancels_before}
 use Rattle.nil_word.proofs.Passing.{Passes, passes_both, passes_inverse, IsWordIn-from}

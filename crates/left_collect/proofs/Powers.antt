@@ -1,6 +1,6 @@
 -- Powers of words by repeating a word, and their inverses.
 --   x word · e exponent · n i counts · b sign
-use Rattle.std.proofs.Common.{◌≡◌, ℕ, zero, suc, ◌<◌, ◌-◌, ◌+◌, Bool, true, false, not, ℤ, pos, negsuc, neg_ℤ, int_lt, unsigned_abs, List, [], ◌∷◌, ◌++◌, refl, sym, ◌∙◌, ap, append-nil, arith}
+use Rattle.std.proofs.Common.{◌≡◌, ℕ, zero, suc, ◌<◌, ◌-◌, ◌+◌, Bool, true, false, not, ℤ, pos, negsuc, neg_ℤ, int_lt, unsigned_abs, List, ◌++◌, refl, sym, ◌∙◌, ap, arith}
 use Rattle.std.proofs.lemmas.Bool.{lt-ltb}
 use Rattle.nil_word.specs.declared.letter.Letter.{Letter}
 use Rattle.nil_word.specs.Words.{inverse}

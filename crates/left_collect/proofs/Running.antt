@@ -1,7 +1,7 @@
 -- Words are collected one behind another, and what is collected keeps its measure: congruence,
 -- length, the entries below and the magnitudes.
 --   b r budgets · v vector · u w words · a letter · i level · m most
-use Rattle.std.proofs.Common.{◌≡◌, ℕ, zero, suc, ◌≤◌, ◌<◌, ◌+◌, ◌-◌, ◌^◌, Bool, true, false, ℤ, pos, negsuc, ◌+ℤ◌, unsigned_abs, List, [], ◌∷◌, ◌++◌, length, take, drop, replicate, Option, Some, None, All, if◌then◌else◌, refl, sym, ◌∙◌, ap, subst, append_assoc, append-nil, arith}
+use Rattle.std.proofs.Common.{◌≡◌, ℕ, zero, suc, ◌≤◌, ◌<◌, ◌-◌, Bool, true, false, ℤ, pos, negsuc, ◌+ℤ◌, unsigned_abs, List, [], ◌∷◌, ◌++◌, length, take, replicate, Some, None, All, if◌then◌else◌, refl, sym, ◌∙◌, ap, subst, append_assoc, append-nil, arith}
 use Rattle.std.proofs.lemmas.Int.{ints}
 use Rattle.std.proofs.lemmas.Option.{none-some, some_pair_parts}
 use Rattle.std.proofs.lemmas.List.{take-set-le, take-append-le, take-take, length-take-le}
@@ -9,8 +9,8 @@ use Rattle.std.proofs.lemmas.List.Elements.{All-append, All-set, All-take, All-r
 use Rattle.nil_word.specs.declared.letter.Letter.{Letter}
 use Rattle.nil_word.specs.Words.{ordered, IsIn, IsWordIn}
 use Rattle.nil_word.specs.Exponents.{entry, signed}
-use Rattle.nil_word.specs.Congruence.{Relations, IsAbove, Congruent, here}
-use Rattle.nil_word.proofs.Congruences.{trans, back, before, after, same}
+use Rattle.nil_word.specs.Congruence.{Relations, IsAbove, Congruent}
+use Rattle.nil_word.proofs.Congruences.{trans, back, after, same}
 use Rattle.nil_word.proofs.Passing.{IsWordIn-from}
 use Rattle.left_collect.specs.Conjugates.{commutes}
 use Rattle.left_collect.specs.Collected.{behind, counted, cut, next, moved, collected}

@@ -1,25 +1,23 @@
--- What the functions that append letters are proved by: an appended letter, and a word that goes on.
+-- What the functions that append letters are proved by: a letter, and a word that goes on.
 --   p presentation · b r budgets · v vector · a letter · u w words
-use Rattle.std.proofs.Common.{◌≡◌, ℕ, zero, suc, ◌≤◌, ◌<◌, ◌+◌, ◌-◌, ◌^◌, Bool, true, false, ℤ, pos, unsigned_abs, List, [], ◌∷◌, ◌++◌, length, replicate, Option, Some, None, All, int_lt, Result, Ok, Err, OnOk, OnErr, if◌then◌else◌, refl, sym, ◌∙◌, ap, subst, append-nil, arith}
+use Rattle.std.proofs.Common.{◌≡◌, ℕ, suc, ◌≤◌, ◌<◌, ◌+◌, ◌-◌, ◌^◌, Bool, true, false, ℤ, pos, unsigned_abs, List, [], ◌∷◌, ◌++◌, length, replicate, Option, Some, None, int_lt, Result, Ok, Err, OnOk, OnErr, if◌then◌else◌, ◌∙◌, ap, append-nil, arith}
 use mir.Syntax.{w128}
 use mir.Val.{SFits}
 use Rattle.std.proofs.lemmas.Int.{fits_signed_from_abs}
 use Rattle.std.proofs.lemmas.List.{length-replicate}
-use Rattle.std.proofs.lemmas.List.Elements.{All-nil, All-cons, All-weaker, All-get_or, All-replicate}
+use Rattle.std.proofs.lemmas.List.Elements.{All-weaker, All-get_or, All-replicate}
 use Rattle.nil_word.specs.declared.letter.Letter.{Letter}
-use Rattle.nil_word.specs.Words.{IsIn, IsWordIn}
 use Rattle.nil_word.specs.Exponents.{entry}
 use Rattle.nil_word.specs.Expressions.{repeated, raised}
 use Rattle.nil_word.specs.Congruence.{Relations}
 use Rattle.nil_pres.specs.Presented.{Presented, IsPresented}
 use Rattle.nil_pres.specs.Relations.{relations_of}
 use Rattle.left_collect.specs.Conjugates.{image, conjugated, commutes}
-use Rattle.left_collect.specs.Collected.{behind, counted, cut, next, moved, collected}
+use Rattle.left_collect.specs.Collected.{behind, counted, cut, collected}
 use Rattle.left_collect.specs.Pieces.{turned, IsReady}
 use Rattle.left_collect.proofs.Powers.{raised-repeated, repeated_more}
 use Rattle.left_collect.proofs.Parts.{length-counted, length-cut}
 use Rattle.left_collect.proofs.Running.{counted_within, cut_within, collected-append, collected-append_none}
-use Rattle.left_collect.proofs.Syllables.{above_pairs}
 
 -- one letter
 module _ (rels : Relations) (v : List ℤ) (a : Letter) where
@@ -79,8 +77,10 @@ module _ (p : Presented) (v : List ℤ) (b : ℕ) (a : Letter) (low : 1 ≤ a.nu
 pub entry_fits : (p : Presented) (v : List ℤ) (b k : ℕ) → IsReady p v b → 1 ≤ k
     → k ≤ length p.names → SFits w128 (entry v k)
 entry_fits p v b k h low high =
-    fits_signed_from_abs w128 (entry v k)
-    (omega (arith, All-get_or (λ e. unsigned_abs e ≤ 2 ^ 24 - b) v (k - 1) (pos 0) (omega (arith, h.entries)) h.within))
+    let size : k - 1 < length v = omega (arith, h.entries) in
+    let at : unsigned_abs (entry v k) ≤ 2 ^ 24 - b =
+    All-get_or (λ e. unsigned_abs e ≤ 2 ^ 24 - b) v (k - 1) (pos 0) size h.within in
+    fits_signed_from_abs w128 (entry v k) (omega (arith, at))
 
 pub ready_zeros : (p : Presented) → IsPresented p
     → IsReady p (replicate (length p.names) (pos 0)) (2 ^ 24)

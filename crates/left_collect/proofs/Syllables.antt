@@ -1,19 +1,19 @@
 -- The right sides of a presentation as words: letter by letter, and syllable by syllable.
 --   p presentation · g < k generators · s syllable · ss syllables · f words for generators
-use Rattle.std.proofs.Common.{◌≡◌, ◌≢◌, ℕ, zero, suc, ◌≤◌, ◌<◌, ◌+◌, ◌-◌, Bool, true, false, not, nat_le, nat_lt, eqb, ◌&&◌, ℤ, pos, negsuc, neg_ℤ, List, [], ◌∷◌, ◌++◌, length, map, take, drop, get_or, All, if◌then◌else◌, refl, sym, ◌∙◌, ap, subst, append_assoc, append-nil, arith}
+use Rattle.std.proofs.Common.{◌≡◌, ◌≢◌, ℕ, zero, suc, ◌≤◌, ◌<◌, ◌+◌, ◌-◌, Bool, true, false, not, nat_le, nat_lt, eqb, ◌&&◌, ℤ, pos, negsuc, neg_ℤ, List, [], ◌∷◌, ◌++◌, length, take, drop, get_or, All, if◌then◌else◌, refl, sym, ◌∙◌, ap, subst, append_assoc, append-nil, arith}
 use Rattle.std.proofs.lemmas.Bool.{le-leb, lt-ltb, ne_eqb}
 use Rattle.std.proofs.lemmas.List.{at_drop_more, take_more}
-use Rattle.std.proofs.lemmas.List.Elements.{All-nil, All-cons, All-head, All-tail, All-append}
+use Rattle.std.proofs.lemmas.List.Elements.{All-nil, All-head, All-tail, All-append}
 use Rattle.nil_word.specs.declared.letter.Letter.{Letter}
 use Rattle.nil_word.specs.Words.{up, down, inverse, power, IsIn, IsWordIn}
-use Rattle.nil_word.specs.Expressions.{repeated, raised}
-use Rattle.nil_word.specs.Factors.{Factor, word_of}
+use Rattle.nil_word.specs.Expressions.{raised}
+use Rattle.nil_word.specs.Factors.{word_of}
 use Rattle.nil_word.specs.Congruence.{Relations, IsAbove}
-use Rattle.nil_word.proofs.Inverses.{inverse-append, inverse-inverse}
+use Rattle.nil_word.proofs.Inverses.{inverse-append}
 use Rattle.nil_pres.specs.declared.syllable.Syllable.{Syllable}
 use Rattle.nil_pres.specs.Rights.{IsRight}
 use Rattle.nil_pres.specs.Presented.{Presented, IsPresented, right_of}
-use Rattle.nil_pres.specs.Relations.{factors_of, is_pair, between, relations_of}
+use Rattle.nil_pres.specs.Relations.{factors_of, is_pair, relations_of}
 use Rattle.nil_pres.proofs.Syllables.{IsRight-generators}
 use Rattle.left_collect.specs.Conjugates.{image, conjugated, is_empty}
 use Rattle.left_collect.specs.Pieces.{piece, pieces, turned}

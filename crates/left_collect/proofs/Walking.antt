@@ -1,6 +1,6 @@
 -- The letters of a vector from a generator on, one generator after another.
 --   k g generators · v vector · c words for generators
-use Rattle.std.proofs.Common.{◌≡◌, ℕ, zero, suc, ◌≤◌, ◌<◌, ◌+◌, ◌-◌, ◌⊎◌, Bool, true, false, ◌&&◌, ℤ, pos, negsuc, List, [], ◌∷◌, ◌++◌, length, take, drop, replicate, get_or, slice_set, if◌then◌else◌, refl, sym, ◌∙◌, ap, inl, inr, append_assoc, append-nil, arith}
+use Rattle.std.proofs.Common.{◌≡◌, ℕ, zero, suc, ◌≤◌, ◌<◌, ◌+◌, ◌-◌, ◌⊎◌, Bool, true, false, ◌&&◌, ℤ, pos, negsuc, List, [], ◌∷◌, ◌++◌, length, take, drop, replicate, slice_set, refl, sym, ◌∙◌, ap, inl, inr, append_assoc, append-nil, arith}
 use Rattle.std.proofs.lemmas.List.{drop_more, drop_all, set_at, length-append, length-take-le, length-replicate}
 use Rattle.std.proofs.lemmas.List.Folds.{list_all-append}
 use Rattle.nil_word.specs.declared.letter.Letter.{Letter}
@@ -105,8 +105,10 @@ pub cleared_more : (v : List ℤ) (g k : ℕ) → g < k → k ≤ length v
     → slice_set (cleared v g k) (k - 1) (pos 0) ≡ cleared v g (k + 1)
 cleared_more v g k low high =
     let p : List ℤ = take g v ++ replicate (k - 1 - g) (pos 0) in
-    let size : length p ≡ k - 1 =
-    omega (arith, length-append (take g v) (replicate (k - 1 - g) (pos 0)), length-take-le g v (omega arith), length-replicate (k - 1 - g) (pos 0)) in
+    let front = length-take-le g v (omega arith) in
+    let zeros = length-replicate (k - 1 - g) (pos 0) in
+    let both = length-append (take g v) (replicate (k - 1 - g) (pos 0)) in
+    let size : length p ≡ k - 1 = omega (arith, both, front, zeros) in
     let e : k - 1 + 1 ≡ k + 1 - 1 = omega arith in
     let f : suc (k - 1 - g) ≡ k + 1 - 1 - g = omega arith in
     ap (λ (u : List ℤ). slice_set (p ++ u) (k - 1) (pos 0))

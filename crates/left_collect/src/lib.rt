@@ -6,8 +6,11 @@
 pub mod collect_fault;
 pub mod collecting;
 mod entries;
+pub mod laws;
 mod rewriting;
 mod spent;
+#[cfg(test)]
+mod tests;
 
 pub use collect_fault::CollectFault;
 pub use collecting::{append, collect};

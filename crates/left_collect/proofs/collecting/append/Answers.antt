@@ -1,5 +1,5 @@
 -- By what is kept of the vector, whose copy the letter is appended to.
-use Rattle.std.proofs.Common.{◌≡◌, ◌-◌, arith}
+use Rattle.std.proofs.Common.{◌-◌, arith}
 use Rattle.left_collect.proofs.Kept.{letter_kept}
 use Rattle.left_collect.proofs.collecting.append.Goals as goal
 

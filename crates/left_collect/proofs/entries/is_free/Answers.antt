@@ -1,4 +1,4 @@
-use Rattle.std.proofs.Common.{◌≡◌, ℕ, ◌≤◌, ◌<◌, ◌+◌, ◌-◌, ◌⊎◌, ℤ, pos, length, eqb, Bool, true, false, List, slice_get, Some, to_z, of_z, sym, ◌∙◌, ap, inl, inr, arith}
+use Rattle.std.proofs.Common.{◌≡◌, ℕ, ◌≤◌, ◌<◌, ◌-◌, ℤ, pos, length, eqb, Bool, true, false, List, to_z, of_z, sym, ◌∙◌, ap, inl, inr, arith}
 use mir.Syntax.{w128}
 use mir.Val.{SFits}
 use Rattle.std.proofs.lemmas.Int.{to_z-of_z, fits_signed_from_abs}
@@ -6,8 +6,7 @@ use Rattle.std.proofs.lemmas.Option.{get_or_from_slice_get}
 use Rattle.nil_pres.specs.declared.syllable.Syllable.{Syllable}
 use Rattle.nil_pres.specs.Presented.{Presented, IsPresented, right_of}
 use Rattle.nil_pres.specs.Relations.{relations_of}
-use Rattle.nil_word.specs.Exponents.{entry}
-use Rattle.left_collect.specs.Conjugates.{is_empty, commutes}
+use Rattle.left_collect.specs.Conjugates.{is_empty}
 use Rattle.left_collect.proofs.Syllables.{is_empty-right}
 use Rattle.left_collect.proofs.Walking.{commutes_more, commutes_stops}
 use Rattle.left_collect.proofs.entries.is_free.Goals as goal

@@ -1,4 +1,4 @@
-use Rattle.std.proofs.Common.{rules, ◌≡◌, ℕ, zero, suc, ◌+◌, ◌-◌, ◌<◌, ◌≤◌, ℤ, pos, negsuc, ◌-ℤ◌, neg_ℤ, int_lt, unsigned_abs, Bool, true, false, not, List, [], ◌∷◌, ◌++◌, length, get_or, drop, take, Option, Some, None, to_z, of_z, refl, sym, ◌∙◌, ap, subst, arith}
+use Rattle.std.proofs.Common.{rules, ◌≡◌, ℕ, zero, suc, ◌+◌, ◌-◌, ℤ, pos, negsuc, ◌-ℤ◌, neg_ℤ, int_lt, unsigned_abs, Bool, true, false, not, List, [], ◌∷◌, get_or, drop, take, Some, None, to_z, of_z, refl, sym, ◌∙◌, ap, subst, arith}
 use mir.Syntax.{w64, w128}
 use mir.Val.{SFits}
 use Rattle.std.proofs.lemmas.Int.{ints, to_z-of_z}
@@ -7,12 +7,12 @@ use Rattle.nil_word.specs.Words.{up, inverse}
 use Rattle.nil_word.specs.Exponents.{entry}
 use Rattle.nil_word.specs.Expressions.{repeated, raised}
 use Rattle.nil_pres.specs.declared.syllable.Syllable.{Syllable}
-use Rattle.nil_pres.specs.Presented.{Presented, right_of}
+use Rattle.nil_pres.specs.Presented.{right_of}
 use Rattle.nil_pres.specs.Relations.{relations_of}
 use Rattle.nil_word.specs.Congruence.{Relations}
 use Rattle.left_collect.specs.Conjugates.{image, conjugated}
 use Rattle.left_collect.specs.Collected.{collected}
-use Rattle.left_collect.specs.Pieces.{piece, pieces, turned, IsReady}
+use Rattle.left_collect.specs.Pieces.{piece, pieces, turned}
 use Rattle.left_collect.proofs.Syllables.{conjugated-onward, conjugated-back, pieces-drop, pieces-take}
 use Rattle.left_collect.proofs.Walking.{onward, image-onward}
 use Rattle.left_collect.proofs.Steps.{goes_on, stops, taking_first, taking_more, taking_stops, last_ok, last_spent, on_err, entry_fits}

@@ -1,11 +1,10 @@
-use Rattle.std.proofs.Common.{◌≡◌, ℕ, ◌+◌, ◌<◌, ◌≤◌, ◌-◌, ◌*◌, [], ◌∷◌, length, take, drop, int_lt, unsigned_abs, pos}
+use Rattle.std.proofs.Common.{◌≡◌, ◌+◌, ◌-◌, ◌*◌, [], ◌∷◌, length, take, drop, int_lt, unsigned_abs, pos}
 use Rattle.nil_word.specs.Words.{up, inverse}
 use Rattle.nil_word.specs.Expressions.{repeated, raised}
-use Rattle.nil_pres.specs.Presented.{right_of}
 use Rattle.nil_pres.specs.Relations.{relations_of}
 use Rattle.left_collect.specs.Conjugates.{image, conjugated}
 use Rattle.left_collect.specs.Collected.{behind, cut, collected}
-use Rattle.left_collect.specs.Pieces.{piece, pieces, turned, IsReady}
+use Rattle.left_collect.specs.Pieces.{pieces, turned, IsReady}
 use Rattle.left_collect.proofs.Walking.{onward}
 use Rattle.left_collect.proofs.rewriting.+rewriting.Given as goal
 
