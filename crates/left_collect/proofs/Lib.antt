@@ -1,0 +1,12 @@
+pub mod Images
+pub mod Conjugating
+pub mod Passing
+pub mod Factored
+pub mod Parts
+pub mod Meaning
+pub mod Running
+pub mod Powers
+pub mod Syllables
+pub mod Walking
+pub mod Steps
+pub mod Kept

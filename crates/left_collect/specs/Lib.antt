@@ -1,0 +1,3 @@
+pub mod Conjugates
+pub mod Collected
+pub mod Pieces
