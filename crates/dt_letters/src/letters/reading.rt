@@ -86,7 +86,7 @@ impl Letters {
     }
 
     /// The exponent of a type in the right side of a pair.
-    pub(super) fn exponent(&self, q: u32, p: u32, k: u32) -> i64
+    pub fn exponent(&self, q: u32, p: u32, k: u32) -> i64
         ensures { result ≡ exponents_of self.now.pres q p k }
     {
         if q < 1 || p <= q || self.pres.count() < p {
