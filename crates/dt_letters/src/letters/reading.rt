@@ -41,7 +41,7 @@ impl Letters {
     }
 
     /// The type of the letter.
-    pub(super) fn kind(&self, a: Tree) -> u32
+    pub fn kind(&self, a: Tree) -> u32
         requires { IsTreeOf self.now a }
         ensures { result ≡ kind_of (letter_in self.now a) }
     {

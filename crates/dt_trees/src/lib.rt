@@ -1,0 +1,6 @@
+//! Least trees over an arena of letters, listed by letting them grow, and their polynomials.
+#![tactic(auto)]
+
+mod growing;
+mod grown;
+mod placing;
