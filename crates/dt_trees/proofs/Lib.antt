@@ -5,3 +5,8 @@ pub mod Stacks
 pub mod Gaining
 pub mod Joining
 pub mod Pairs
+pub mod Groups
+pub mod Variables
+pub mod Sums
+pub mod Permuted
+pub mod Refusals
