@@ -29,7 +29,7 @@ impl Letters {
     }
 
     /// Whether the right letter of the left one, where that is a node, is collected earlier.
-    fn goes_on(&self, left: Tree, right: Tree) -> bool
+    pub(super) fn goes_on(&self, left: Tree, right: Tree) -> bool
         requires first { IsTreeOf self.now left }
         requires second { IsTreeOf self.now right }
         ensures { result ≡ goes_on (letter_in self.now left) (letter_in self.now right) }

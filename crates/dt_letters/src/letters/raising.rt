@@ -96,7 +96,7 @@ impl Letters {
     }
 
     /// Whether both letters are of one group.
-    fn is_same_group(&self, a: Tree, b: Tree) -> bool
+    pub fn is_same_group(&self, a: Tree, b: Tree) -> bool
         requires first { IsTreeOf self.now a }
         requires second { IsTreeOf self.now b }
         ensures { result ≡ same_group (group_of (letter_in self.now a))

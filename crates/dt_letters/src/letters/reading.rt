@@ -41,7 +41,7 @@ impl Letters {
     }
 
     /// The type of the letter.
-    pub(super) fn kind(&self, a: Tree) -> u32
+    pub fn kind(&self, a: Tree) -> u32
         requires { IsTreeOf self.now a }
         ensures { result ≡ kind_of (letter_in self.now a) }
     {
@@ -86,7 +86,7 @@ impl Letters {
     }
 
     /// The exponent of a type in the right side of a pair.
-    pub(super) fn exponent(&self, q: u32, p: u32, k: u32) -> i64
+    pub fn exponent(&self, q: u32, p: u32, k: u32) -> i64
         ensures { result ≡ exponents_of self.now.pres q p k }
     {
         if q < 1 || p <= q || self.pres.count() < p {

@@ -1,0 +1,12 @@
+pub mod Each
+pub mod Depth
+pub mod Small
+pub mod Stacks
+pub mod Gaining
+pub mod Joining
+pub mod Pairs
+pub mod Groups
+pub mod Variables
+pub mod Sums
+pub mod Permuted
+pub mod Refusals

@@ -1,0 +1,251 @@
+-- Growing by types, pair by pair and left letter by left letter.
+use Rattle.std.proofs.Common.{◌≡◌, ℕ, ◌^◌, ◌+◌, ◌-◌, ◌∙◌, List, [], ◌++◌, map, length, sym, ap, subst, arith, rules, ℤ, w64, to_z, of_z, FitsSigned}
+use Rattle.std.specs.Prelude.{All, OnOk}
+use Rattle.std.proofs.lemmas.Int.{to_z-of_z}
+use Rattle.std.proofs.lemmas.Iterator.Consumers.{YieldsList-turn}
+use Rattle.std.proofs.lemmas.Iterator.Adapters.{YieldsList-from_vec}
+use Rattle.dt_letters.specs.Allowed.{exponents_of}
+use Rattle.dt_letters.specs.Growth.{AreBelow, most_steps}
+use Rattle.dt_letters.specs.Listing.{Grew, each, joined, upto}
+use Rattle.dt_letters.proofs.Different.{extended-trans}
+use Rattle.dt_trees.specs.Ways.{stack_in, grown_in, Gains, AreWays, FitsFor, IsSmall, leaf_ways, rights_of, pair_ways}
+use Rattle.dt_trees.proofs.Depth.{grown-ways}
+use Rattle.dt_trees.proofs.Small.{all_below-more}
+use Rattle.dt_trees.proofs.Stacks.{trees-kept, small-kept}
+use Rattle.dt_trees.proofs.Gaining.{gains-before, gains-same, ways-gained, on_ok}
+use Rattle.dt_trees.proofs.Joining.{way-at, grew-at, gains-each}
+use Rattle.dt_trees.proofs.Pairs.{pushed-trees, pushed-stack, rights-small, lefts-small, half-small, rights-same, gains-pair, pair-kept, next-joined, gains-joined}
+use Rattle.dt_trees.proofs.growing.+grow.Goals as goal
+
+pub grow-place_leaves-requires-clause-small : goal.grow-place_leaves-requires-clause-small
+grow-place_leaves-requires-clause-small t c =
+    all_below-more (2 ^ 63 - most_steps c.args.k) (2 ^ 63) (stack_in c.args.letters.now c.args.stack.now)
+    (omega arith) c.requires.small
+
+pub grow-grow_pair-requires : goal.grow-grow_pair-requires
+grow-grow_pair-requires t c = (
+  omega arith,
+  (
+    c.requires.level,
+    (
+      c.loop-q.auto.q,
+      (
+        omega arith,
+        (
+          omega arith,
+          (
+            c.requires.most,
+            (
+              trees-kept c.args.letters.now c.loop-q.letters c.loop-q.invariant.kept c.args.stack.now
+                  c.requires.trees,
+              small-kept (2 ^ 63 - most_steps c.args.k) c.args.letters.now c.loop-q.letters
+                  c.loop-q.invariant.kept c.args.stack.now c.requires.trees c.requires.small,
+            ),
+          ),
+        ),
+      ),
+    ),
+  ),
+)
+
+pub grow-returns-in_err-grow_pair-clause-kept : goal.grow-returns-in_err-grow_pair-clause-kept
+grow-returns-in_err-grow_pair-clause-kept t c =
+    extended-trans c.args.letters.now c.loop-q.letters c.grow_pair.new.letters c.loop-q.invariant.kept
+    c.grow_pair.ensures.kept
+
+pub grow-loop-q-preserved : goal.grow-loop-q-preserved
+grow-loop-q-preserved t c =
+    let a = c.args.letters.now in
+    let b = c.loop-q.letters in
+    let ts = stack_in a c.args.stack.now in
+    let f : ℕ → ℕ → List Grew = pair_ways (exponents_of a.pres) c.args.level ts c.args.k in
+    record {
+      kept = extended-trans a b c.grow_pair.new.letters c.loop-q.invariant.kept c.grow_pair.ensures.kept;
+      gains = gains-joined a b c.grow_pair.new.letters [] c.loop-q.ways.items c.grow_pair.new.ways.items
+          (leaf_ways c.args.level ts c.args.k ++ each (λ p. each (λ q. f p q) (upto (p - 1))) (upto (c.loop-p.p - 1)))
+          (pair_ways (exponents_of b.pres) c.args.level (stack_in b c.args.stack.now) c.args.k c.loop-p.p c.loop-q.q)
+          (f c.loop-p.p) c.loop-q.q (c.loop-q.q - 1) (c.loop-q.q + 1 - 1) (omega (arith, c.loop-q.auto.q)) (omega arith)
+          (pair-kept a b c.loop-q.invariant.kept c.args.level c.args.k c.loop-p.p c.loop-q.q c.args.stack.now
+          c.requires.trees)
+          c.loop-q.invariant.gains c.in_ok-grow_pair.ensures.gains;
+    }
+
+pub grow-loop-p-preserved : goal.grow-loop-p-preserved
+grow-loop-p-preserved t c =
+    let a = c.args.letters.now in
+    let ts = stack_in a c.args.stack.now in
+    let f : ℕ → ℕ → List Grew = pair_ways (exponents_of a.pres) c.args.level ts c.args.k in
+    let row : ℕ → List Grew = λ p. each (λ q. f p q) (upto (p - 1)) in
+    let leaves = leaf_ways c.args.level ts c.args.k in
+    let p = c.loop-p.p in
+    let last : c.loop-q.q - 1 ≡ p - 1 = omega (arith, c.loop-q.auto.q-end, c.loop-p.auto.p, c.loop-q-test.false) in
+    record {
+      kept = c.loop-q.invariant.kept;
+      gains = gains-same a c.loop-q.letters [] c.loop-q.ways.items
+          ((leaves ++ each row (upto (p - 1))) ++ each (f p) (upto (c.loop-q.q - 1)))
+          (leaves ++ each row (upto (p + 1 - 1)))
+          (ap (λ (i : ℕ). (leaves ++ each row (upto (p - 1))) ++ each (f p) (upto i)) last
+          ∙ next-joined leaves row p (p - 1) (p + 1 - 1) (omega (arith, c.loop-p.auto.p)) (omega arith))
+          c.loop-q.invariant.gains;
+    }
+
+pub grow-returns-clause-ways : goal.grow-returns-clause-ways
+grow-returns-clause-ways t c =
+    let a = c.args.letters.now in
+    let ts = stack_in a c.args.stack.now in
+    let f : ℕ → ℕ → List Grew = pair_ways (exponents_of a.pres) c.args.level ts c.args.k in
+    let row : ℕ → List Grew = λ p. each (λ q. f p q) (upto (p - 1)) in
+    let leaves = leaf_ways c.args.level ts c.args.k in
+    let last : c.loop-p.p - 1 ≡ c.args.k - 1 =
+    omega (arith, c.loop-p.auto.p-end, c.loop-p-test.false, c.requires.least) in
+    subst (AreWays c.loop-p.letters c.loop-p.ways.items)
+    (ap (λ (i : ℕ). leaves ++ each row (upto i)) last
+    ∙ sym (grown-ways (exponents_of a.pres) c.args.level c.requires.level ts c.args.k c.requires.least))
+    (ways-gained a c.loop-p.letters c.loop-p.ways.items (leaves ++ each row (upto (c.loop-p.p - 1)))
+    c.loop-p.invariant.gains)
+
+pub grow_pair-grow-requires : goal.grow_pair-grow-requires
+grow_pair-grow-requires t c = (
+  omega arith,
+  (
+    c.requires.level,
+    (
+      omega arith,
+      (
+        omega arith,
+        (
+          c.requires.trees,
+          half-small c.args.k c.args.p (stack_in c.args.letters.now c.args.stack.now) (omega arith)
+              c.requires.small,
+        ),
+      ),
+    ),
+  ),
+)
+
+pub grow_pair-grow_rights-requires : goal.grow_pair-grow_rights-requires
+grow_pair-grow_rights-requires t c = (
+  omega arith,
+  (
+    c.requires.level,
+    (
+      c.requires.least,
+      (
+        omega arith,
+        (
+          c.requires.most,
+          (
+            c.in_ok-lefts.ensures.ways.ways,
+            subst (All (FitsFor c.args.q)) (sym c.in_ok-lefts.ensures.ways.are)
+                (lefts-small (exponents_of c.args.letters.now.pres) c.args.level c.args.k c.args.p c.args.q
+                (stack_in c.args.letters.now c.args.stack.now) c.requires.most c.requires.below (omega arith)
+                c.requires.small),
+          ),
+        ),
+      ),
+    ),
+  ),
+)
+
+pub grow_pair-returns-clause-gains : goal.grow_pair-returns-clause-gains
+grow_pair-returns-clause-gains t c =
+    let a = c.args.letters.now in
+    let b = c.grow.new.letters in
+    let d = c.grow_rights.new.letters in
+    let limit = c.exponent-limit.result in
+    let fits : FitsSigned w64 limit = search rules in
+    let got : ℤ → Type 0 = λ z. Gains b c.args.ways.now.items d c.grow_rights.new.ways.items
+    (each (rights_of (exponents_of b.pres) c.args.level c.args.q c.args.k z)
+    (map (grown_in b) c.in_ok-lefts.lefts.items)) in
+    on_ok c.grow_rights.result (got limit)
+    (Gains a c.args.ways.now.items d c.grow_rights.new.ways.items
+    (pair_ways (exponents_of a.pres) c.args.level (stack_in a c.args.stack.now) c.args.k c.args.p c.args.q))
+    (gains-pair a b d c.grow.ensures.kept c.args.ways.now.items c.grow_rights.new.ways.items
+    c.in_ok-lefts.lefts.items c.args.level c.args.k c.args.p c.args.q limit
+    (stack_in a c.args.stack.now) c.exponent-limit.ensures
+    (λ e. c.if-limit-eq0.false (ap (of_z w64) e)) c.in_ok-lefts.ensures.ways)
+    (subst (λ (z : ℤ). OnOk c.grow_rights.result (got z)) (to_z-of_z w64 limit fits) c.grow_rights.ensures.gains)
+
+pub grow_rights-grow-requires : goal.grow_rights-grow-requires
+grow_rights-grow-requires t c =
+    let a = c.args.letters.now in
+    let b = c.loop-left.letters in
+    let g = c.into_iter-left-iterator.ensures.into_iter_gives in
+    let turn = YieldsList-turn (YieldsList-from_vec {s = c.into_iter-left-iterator.result} c.args.lefts.items g.0 (omega arith)) c.loop-left.yielded
+    c.loop-left.left-iterator c.loop-left.yielded_by c.next.result c.next.new.self c.in-Some.left c.in-Some.is c.next.ensures.steps in
+    let w = way-at a c.args.lefts.items (length c.loop-left.yielded) c.in-Some.left c.requires.ways turn.0 turn.1 in
+    let small = grew-at (FitsFor c.args.q) a c.args.lefts.items (length c.loop-left.yielded) c.in-Some.left
+    c.requires.small turn.0 turn.1 in (
+      omega arith,
+      (
+        c.requires.level,
+        (
+          c.requires.least,
+          (
+            omega arith,
+            (
+              pushed-trees a b c.loop-left.invariant.kept c.in-Some.left w c.push.new.self.items
+                  c.deref.result.now c.in_ok-push.ensures.items c.deref.ensures.value,
+              subst (AreBelow (2 ^ 63 - most_steps c.args.q))
+                  (sym (pushed-stack a b c.loop-left.invariant.kept c.in-Some.left w c.push.new.self.items
+                  c.deref.result.now c.in_ok-push.ensures.items c.deref.ensures.value)) small,
+            ),
+          ),
+        ),
+      ),
+    )
+
+pub grow_rights-returns-in_err-rights-clause-kept : goal.grow_rights-returns-in_err-rights-clause-kept
+grow_rights-returns-in_err-rights-clause-kept t c =
+    extended-trans c.args.letters.now c.loop-left.letters c.grow.new.letters c.loop-left.invariant.kept
+    c.grow.ensures.kept
+
+pub grow_rights-join_all-requires-clause-small : goal.grow_rights-join_all-requires-clause-small
+grow_rights-join_all-requires-clause-small t c =
+    let a = c.args.letters.now in
+    let b = c.loop-left.letters in
+    let g = c.into_iter-left-iterator.ensures.into_iter_gives in
+    let turn = YieldsList-turn (YieldsList-from_vec {s = c.into_iter-left-iterator.result} c.args.lefts.items g.0 (omega arith)) c.loop-left.yielded
+    c.loop-left.left-iterator c.loop-left.yielded_by c.next.result c.next.new.self c.in-Some.left c.in-Some.is c.next.ensures.steps in
+    let w = way-at a c.args.lefts.items (length c.loop-left.yielded) c.in-Some.left c.requires.ways turn.0 turn.1 in
+    let small = grew-at (FitsFor c.args.q) a c.args.lefts.items (length c.loop-left.yielded) c.in-Some.left
+    c.requires.small turn.0 turn.1 in
+    subst (All IsSmall) (sym c.in_ok-rights.ensures.ways.are)
+    (rights-small (exponents_of b.pres) c.args.level c.args.q (stack_in b c.deref.result.now) (omega arith)
+    (subst (AreBelow (2 ^ 63 - most_steps c.args.q))
+    (sym (pushed-stack a b c.loop-left.invariant.kept c.in-Some.left w c.push.new.self.items
+    c.deref.result.now c.in_ok-push.ensures.items c.deref.ensures.value)) small))
+
+pub grow_rights-returns-in_err-join_all-clause-kept : goal.grow_rights-returns-in_err-join_all-clause-kept
+grow_rights-returns-in_err-join_all-clause-kept t c =
+    extended-trans c.args.letters.now c.loop-left.letters c.join_all.new.letters c.loop-left.invariant.kept
+    (extended-trans c.loop-left.letters c.grow.new.letters c.join_all.new.letters c.grow.ensures.kept
+    c.join_all.ensures.kept)
+
+pub grow_rights-loop-left-preserved : goal.grow_rights-loop-left-preserved
+grow_rights-loop-left-preserved t c =
+    let a = c.args.letters.now in
+    let b = c.loop-left.letters in
+    let d = c.grow.new.letters in
+    let z = to_z w64 (of_z w64 c.args.limit) in
+    let g = c.into_iter-left-iterator.ensures.into_iter_gives in
+    let turn = YieldsList-turn (YieldsList-from_vec {s = c.into_iter-left-iterator.result} c.args.lefts.items g.0 (omega arith)) c.loop-left.yielded
+    c.loop-left.left-iterator c.loop-left.yielded_by c.next.result c.next.new.self c.in-Some.left c.in-Some.is c.next.ensures.steps in
+    let w = way-at a c.args.lefts.items (length c.loop-left.yielded) c.in-Some.left c.requires.ways turn.0 turn.1 in
+    let more = each (λ r. joined (exponents_of d.pres) c.args.k z r.tree r.list)
+    (map (grown_in d) c.in_ok-rights.rights.items) in
+    record {
+      kept = extended-trans a b c.join_all.new.letters c.loop-left.invariant.kept
+          (extended-trans b d c.join_all.new.letters c.grow.ensures.kept c.join_all.ensures.kept);
+      gains = gains-each a b c.join_all.new.letters c.args.ways.now.items c.loop-left.ways.items
+          c.join_all.new.ways.items c.loop-left.yielded c.in-Some.left
+          (rights_of (exponents_of a.pres) c.args.level c.args.q c.args.k z) more
+          (rights-same a b d c.loop-left.invariant.kept c.grow.ensures.kept c.args.level c.args.q c.args.k
+          z c.in_ok-rights.rights.items c.deref.result.now (grown_in a c.in-Some.left)
+          (pushed-stack a b c.loop-left.invariant.kept c.in-Some.left w c.push.new.self.items
+          c.deref.result.now c.in_ok-push.ensures.items c.deref.ensures.value)
+          c.in_ok-rights.ensures.ways)
+          c.loop-left.invariant.gains
+          (gains-before b d c.join_all.new.letters c.loop-left.ways.items c.join_all.new.ways.items more
+          c.grow.ensures.kept c.in_ok-join_all.ensures.gains);
+    }

@@ -1,0 +1,46 @@
+use Rattle.std.proofs.Common.{◌+◌, ◌-◌, [], ◌++◌, map}
+use Rattle.dt_letters.specs.Allowed.{exponents_of}
+use Rattle.dt_letters.specs.Listing.{each, upto}
+use Rattle.dt_letters.specs.Arena.{IsExtended}
+use Rattle.dt_trees.specs.Ways.{stack_in, grown_in, Gains, leaf_ways, rights_of, pair_ways}
+use Rattle.dt_trees.proofs.growing.+grow.Given as goal
+
+abbrev pub decreases-grow : goal.decreases-grow
+decreases-grow l = l.k + l.k
+
+abbrev pub decreases-grow_pair : goal.decreases-grow_pair
+decreases-grow_pair l = l.p + l.p + 1
+
+abbrev pub decreases-grow_rights : goal.decreases-grow_rights
+decreases-grow_rights l = l.q + l.q + 1
+
+abbrev pub invariant-grow_rights-loop-left : goal.invariant-grow_rights-loop-left
+invariant-grow_rights-loop-left l = record {
+  kept : IsExtended l.fn.letters l.letters;
+  gains : Gains l.fn.letters l.fn.ways.items l.letters l.ways.items
+      (each (rights_of (exponents_of l.fn.letters.pres) l.level l.q l.k l.limit)
+      (map (grown_in l.fn.letters) l.yielded));
+}
+
+abbrev pub invariant-grow-loop-p : goal.invariant-grow-loop-p
+invariant-grow-loop-p l = record {
+  kept : IsExtended l.fn.letters l.letters;
+  gains : Gains l.fn.letters [] l.letters l.ways.items
+      (leaf_ways l.level (stack_in l.fn.letters l.stack) l.k
+      ++ each (λ p. each (λ q.
+      pair_ways (exponents_of l.fn.letters.pres) l.level (stack_in l.fn.letters l.stack) l.k p q)
+      (upto (p - 1))) (upto (l.p - 1)));
+}
+
+abbrev pub invariant-grow-loop-q : goal.invariant-grow-loop-q
+invariant-grow-loop-q l = record {
+  kept : IsExtended l.fn.letters l.letters;
+  gains : Gains l.fn.letters [] l.letters l.ways.items
+      ((leaf_ways l.level (stack_in l.fn.letters l.stack) l.k
+      ++ each (λ p. each (λ q.
+      pair_ways (exponents_of l.fn.letters.pres) l.level (stack_in l.fn.letters l.stack) l.k p q)
+      (upto (p - 1))) (upto (l.p - 1)))
+      ++ each (λ q.
+      pair_ways (exponents_of l.fn.letters.pres) l.level (stack_in l.fn.letters l.stack) l.k l.p q)
+      (upto (l.q - 1)));
+}

@@ -1,0 +1,14 @@
+//! Least trees over an arena of letters, listed by letting them grow, and their polynomials.
+#![tactic(auto)]
+
+mod constants;
+mod grouping;
+mod growing;
+mod grown;
+mod least;
+mod monomials;
+mod placing;
+mod polynomial;
+
+pub use least::least_trees;
+pub use polynomial::tree_poly;
