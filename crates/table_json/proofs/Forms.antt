@@ -15,7 +15,8 @@ use Rattle.hall_table.specs.Shape.{alone, is_alone, is_lower, AreLower, HasShape
 use Rattle.hall_table.proofs.Shapes.{alone_is, not_alone}
 use Rattle.hall_table.proofs.Widths.{x_variable, y_variable}
 use Rattle.table_json.specs.Format.{array_of, term_data, poly_data}
-use Rattle.table_json.specs.Refusing.{IsPart, Ascend, IsBehind, SaysTerm, SaysTerms, SaysPolys}
+use Rattle.table_json.specs.Refusing.{SaysTerms, SaysPolys}
+use Rattle.table_json.specs.TermRules.{IsPart, Ascend, IsBehind, SaysTerm}
 use Rattle.table_json.proofs.Names.{side_of, lower_x, lower_y, lower_more}
 
 variable_is : (n v : ℕ) → n ≤ 48 → is_lower 1 (n + 1) v ≡ true → IsVariable v

@@ -7,7 +7,7 @@ use Rattle.std.specs.Str.Parse.{AllDigits, digits_value, ParsesSigned, ParsesUns
 use Rattle.std.proofs.lemmas.Fmt.{decimal_is_IsNumeral_wide, parse-decimal}
 use Rattle.std.proofs.lemmas.Result.{Ok-from_Ok_iff}
 use Rattle.std.proofs.lemmas.Str.Parse.{digit_from_value, numerals_by_value, parse_signed_digits, parse_signed_minus, tells_digits}
-use Rattle.table_json.specs.Refusing.{IsCoefficient}
+use Rattle.table_json.specs.TermRules.{IsCoefficient}
 
 wide : (n : ℕ) → n < 2 ^ 127 → n < 10 ^ 64
 wide n h = omega (arith, h)

@@ -7,7 +7,7 @@ use Rattle.serde_json.specs.Data.{unsigned, Data, number, string}
 use Rattle.binom_poly.specs.declared.part.Part.{Part}
 use Rattle.binom_poly.specs.Text.{variable_text}
 use Rattle.table_json.specs.Format.{parts_data}
-use Rattle.table_json.specs.Refusing.{IsPart}
+use Rattle.table_json.specs.TermRules.{IsPart}
 use Rattle.table_json.specs.Reading.{AreParts}
 use Rattle.table_json.proofs.Names.{variable_text-same}
 

@@ -11,7 +11,8 @@ use Rattle.serde_json.specs.View.{view}
 use Rattle.serde_json.specs.declared.value.Value.{Value}
 use Rattle.binom_poly.specs.declared.term.Term.{Term}
 use Rattle.table_json.specs.declared.table_fault.TableFault.{TableFault}
-use Rattle.table_json.specs.Refusing.{IsArray, SaysTerm, SaysTerms, RefusesTerm, RefusesTerms, SaysPoly, RefusesPoly, SaysPolys, RefusesPolys}
+use Rattle.table_json.specs.Refusing.{IsArray, SaysTerms, RefusesTerms, SaysPoly, RefusesPoly, SaysPolys, RefusesPolys}
+use Rattle.table_json.specs.TermRules.{SaysTerm, RefusesTerm}
 use Rattle.table_json.specs.Reading.{data_of, last_monomial}
 use Rattle.table_json.proofs.Behind.{last_monomial-append}
 

@@ -7,7 +7,7 @@ use Rattle.binom_poly.specs.declared.part.Part.{Part}
 use Rattle.binom_poly.specs.declared.term.Term.{Term}
 use Rattle.table_json.specs.declared.table_fault.TableFault.{TableFault}
 use Rattle.table_json.specs.Format.{array_of, parts_data}
-use Rattle.table_json.specs.Refusing.{HasForm, IsCoefficient, IsNext, SaysTerm, RefusesTerm, form, number, order}
+use Rattle.table_json.specs.TermRules.{HasForm, IsCoefficient, IsNext, SaysTerm, RefusesTerm, form, number, order}
 use Rattle.table_json.specs.Reading.{AreParts}
 use Rattle.table_json.proofs.Numerals.{signed_same}
 use Rattle.table_json.proofs.Arrays.{array_of-same}

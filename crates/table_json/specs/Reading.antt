@@ -11,7 +11,7 @@ use Rattle.serde_json.specs.declared.value.Value.{Value}
 use Rattle.binom_poly.specs.declared.part.Part.{Part}
 use Rattle.binom_poly.specs.declared.term.Term.{Term}
 use Rattle.table_json.specs.Format.{parts_data}
-use Rattle.table_json.specs.Refusing.{IsPart}
+use Rattle.table_json.specs.TermRules.{IsPart}
 
 abbrev pub data_of : List Value → List Data
 data_of vs = map view vs

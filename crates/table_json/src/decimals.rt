@@ -2,7 +2,7 @@
 
 ghost use Rattle.std.specs.Prelude.{◌≡◌, ◌≢◌, ℕ, ℤ, ◌≤◌, MatchOption};
 ghost use Rattle.std.specs.Fmt.{decimal};
-ghost use Rattle.table_json.specs.Refusing.{IsCoefficient};
+ghost use Rattle.table_json.specs.TermRules.{IsCoefficient};
 
 use itoa::Buffer;
 

@@ -1,7 +1,7 @@
 //! The order of monomials.
 
 ghost use Rattle.std.specs.Prelude.{◌≡◌, ◌≤◌, ◌↔◌, IsTrue, All, MatchOption};
-ghost use Rattle.table_json.specs.Refusing.{Ascend, IsBehind, IsNext, IsPart};
+ghost use Rattle.table_json.specs.TermRules.{Ascend, IsBehind, IsNext, IsPart};
 ghost use Rattle.table_json.specs.Reading.{last_monomial};
 
 use binom_poly::{Monomial, Part, Term};

@@ -7,7 +7,7 @@ ghost use Rattle.binom_poly.specs.declared.part.Part.{Part as SeenPart};
 ghost use Rattle.binom_poly.specs.Text.{variable_text};
 ghost use Rattle.binom_poly.specs.Variable.{exponent_limit};
 ghost use Rattle.hall_table.specs.Shape.{is_lower};
-ghost use Rattle.table_json.specs.Refusing.{IsPart};
+ghost use Rattle.table_json.specs.TermRules.{IsPart};
 ghost use Rattle.table_json.specs.Reading.{AreParts, data_of};
 
 use super::decimals::generator;

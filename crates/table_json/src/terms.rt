@@ -4,7 +4,8 @@ ghost use Rattle.std.specs.Prelude.{◌≡◌, ◌≢◌, ◌≤◌, ◌⊎◌, 
 ghost use Rattle.serde_json.specs.Data.{Data, string};
 ghost use Rattle.serde_json.specs.View.{view};
 ghost use Rattle.table_json.specs.Format.{array_of};
-ghost use Rattle.table_json.specs.Refusing.{IsArray, RefusesPoly, RefusesTerm, SaysPoly, SaysTerm};
+ghost use Rattle.table_json.specs.Refusing.{IsArray, RefusesPoly, SaysPoly};
+ghost use Rattle.table_json.specs.TermRules.{RefusesTerm, SaysTerm};
 ghost use Rattle.table_json.specs.Reading.{data_of, last_monomial};
 
 use super::decimals::coefficient;

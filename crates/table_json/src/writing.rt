@@ -7,7 +7,7 @@ ghost use Rattle.hall_table.specs.Shape.{is_lower};
 ghost use Rattle.hall_table.specs.Tabled.{IsTabled, last_of};
 ghost use Rattle.table_json.specs.Format.{parts_data, poly_data, table_data, table_text, term_data};
 ghost use Rattle.table_json.specs.Saying.{IsTableText};
-ghost use Rattle.table_json.specs.Refusing.{IsPart};
+ghost use Rattle.table_json.specs.TermRules.{IsPart};
 ghost use Rattle.table_json.specs.Reading.{HasParts, data_of};
 
 use binom_poly::{Part, Poly, SIDE, Term};

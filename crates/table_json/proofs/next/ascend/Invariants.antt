@@ -1,5 +1,5 @@
 use Rattle.std.proofs.Common.{drop}
-use Rattle.table_json.specs.Refusing.{Ascend}
+use Rattle.table_json.specs.TermRules.{Ascend}
 use Rattle.table_json.proofs.next.ascend.Given as goal
 
 abbrev pub invariant-loop-part : goal.invariant-loop-part

@@ -1,6 +1,6 @@
 use Rattle.std.proofs.Common.{sym, subst}
 use Rattle.std.specs.Prelude.{◌↔◌, IsTrue}
-use Rattle.table_json.specs.Refusing.{IsBehind}
+use Rattle.table_json.specs.TermRules.{IsBehind}
 use Rattle.table_json.proofs.Behind.{last_monomial-last}
 use Rattle.table_json.proofs.next.is_behind.Goals as goal
 

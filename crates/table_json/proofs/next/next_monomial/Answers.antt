@@ -1,5 +1,5 @@
 use Rattle.std.proofs.Common.{subst, arith}
-use Rattle.table_json.specs.Refusing.{Ascend}
+use Rattle.table_json.specs.TermRules.{Ascend}
 use Rattle.table_json.proofs.Forms.{is_monomial}
 use Rattle.table_json.proofs.next.next_monomial.Goals as goal
 

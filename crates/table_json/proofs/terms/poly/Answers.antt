@@ -6,7 +6,8 @@ use Rattle.serde_json.specs.Find.{as_array}
 use Rattle.serde_json.specs.declared.value.Value.{Value}
 use Rattle.binom_poly.specs.declared.term.Term.{Term}
 use Rattle.table_json.specs.Format.{array_of}
-use Rattle.table_json.specs.Refusing.{RefusesTerm, SaysTerm, SaysTerms}
+use Rattle.table_json.specs.Refusing.{SaysTerms}
+use Rattle.table_json.specs.TermRules.{RefusesTerm, SaysTerm}
 use Rattle.table_json.specs.Reading.{data_of, last_monomial}
 use Rattle.table_json.proofs.Arrays.{as_array-some}
 use Rattle.table_json.proofs.Forms.{is_polynomial}

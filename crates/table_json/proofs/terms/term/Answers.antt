@@ -1,6 +1,6 @@
 use Rattle.std.proofs.Common.{inr}
 use Rattle.table_json.specs.Format.{parts_data}
-use Rattle.table_json.specs.Refusing.{form, number, order}
+use Rattle.table_json.specs.TermRules.{form, number, order}
 use Rattle.table_json.proofs.Single.{form_of, parts_of_form}
 use Rattle.table_json.proofs.terms.term.Goals as goal
 
