@@ -4,6 +4,6 @@ use Rattle.poly_subst.proofs.exponents.raise_to.Given as goal
 
 abbrev pub invariant-loop-part : goal.invariant-loop-part
 invariant-loop-part l = record {
-  places : length l.numbers ≡ 201;
-  raised : (v : ℕ) → get_or l.numbers v 0 ≡ max (get_or l.fn.numbers v 0) (exponent_of (take l.part-index l.parts) v);
+  places : length l.tops ≡ 201;
+  raised : (v : ℕ) → get_or l.tops v 0 ≡ max (get_or l.fn.tops v 0) (exponent_of (take l.part-index l.parts) v);
 }

@@ -26,11 +26,11 @@ returns-in_err-grow-clause-wide c =
     refuses_passed c.from_residual.result _ c.from_residual.ensures.1
     c.in_err-grow.ensures.wide
     (λ w. row_overflows c.args.p.now c.args.list.now c.loop-place.place c.index-list-place.result c.loop-place-test.true c.index-list-place.is
-    (subst (ChooseOverflows c.index-list-place.result.to) (c.number_of-top.ensures ∙ c.greatest_exponents-tops.ensures.greatest c.index-list-place.result.var) w))
+    (subst (ChooseOverflows c.index-list-place.result.to) (c.top_of-top.ensures ∙ c.greatest_exponents-tops.ensures.greatest c.index-list-place.result.var) w))
 
 pub loop-place-preserved : goal.loop-place-preserved
 loop-place-preserved c =
-    let top = c.number_of-top.ensures ∙ c.greatest_exponents-tops.ensures.greatest c.index-list-place.result.var in
+    let top = c.top_of-top.ensures ∙ c.greatest_exponents-tops.ensures.greatest c.index-list-place.result.var in
     let reaches : greatest c.index-list-place.result.var c.args.p.now < length c.grow.new.self = omega (arith, top, c.in_ok-grow.ensures.reaches) in
     record {
       rows = rows-set c.args.list.now c.loop-place.rows c.loop-place.place c.index-list-place.result c.grow.new.self c.loop-place.invariant.rows c.loop-place-test.true c.index-list-place.is c.in_ok-grow.ensures.row;
