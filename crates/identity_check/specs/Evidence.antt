@@ -1,8 +1,9 @@
 -- What a failure shows by its point and its two numbers.
---   listed point          the integer point of a list of values: 0 at each variable that isn't listed
---   IsEvidence rels t f   the numbers of f differ, and at its point the values of the two sides differ
---                         by left - right; of a relation they are the two entries, and the point is
---                         empty
+--   listed point          the integer point of a list of values: 0 at each variable that it
+--                         doesn't name
+--   IsEvidence rels t f   the numbers of f differ, and at its point the values of the two sides
+--                         differ by left - right; of a relation they are the two entries, and the
+--                         point is empty
 -- rels a presentation · t table · f failure · j < l and k generators · v variable
 use Rattle.std.specs.Prelude.{◌≡◌, ◌≢◌, ◌==◌, ℕ, ℤ, pos, ◌-ℤ◌, List, [], ◌∷◌, cond}
 use Rattle.nil_word.specs.Congruence.{Relations}
