@@ -9,4 +9,6 @@ pub mod Powers
 pub mod Syllables
 pub mod Walking
 pub mod Steps
+pub mod Widened
+pub mod Sides
 pub mod Kept

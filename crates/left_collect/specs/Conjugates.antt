@@ -3,6 +3,7 @@
 --   conjugated_down rels d g k   a_g a_k a_g^-1 as a word in a_k and later generators, by d nested
 --                                steps; a_k where d is 0
 --   conjugated rels a k          a^-1 a_k a as such a word: a_k a = a (conjugated rels a k)
+--   is_empty w                   w has no letter
 --   commutes rels g w            each letter of w has an empty right side with a_g
 -- g < k generators · a letter · w word
 use Rattle.std.specs.Prelude.{ℕ, zero, suc, Bool, true, false, List, [], ◌∷◌, ◌++◌, if◌then◌else◌}

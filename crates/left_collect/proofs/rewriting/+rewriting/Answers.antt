@@ -1,7 +1,7 @@
-use Rattle.std.proofs.Common.{rules, ◌≡◌, ℕ, zero, suc, ◌+◌, ◌-◌, ℤ, pos, negsuc, ◌-ℤ◌, neg_ℤ, int_lt, unsigned_abs, Bool, true, false, not, List, [], ◌∷◌, get_or, drop, take, Some, None, to_z, of_z, refl, sym, ◌∙◌, ap, subst, arith}
+use Rattle.std.proofs.Common.{rules, ◌≡◌, ◌+◌, ◌-◌, ℤ, pos, neg_ℤ, int_lt, unsigned_abs, not, List, [], ◌∷◌, get_or, drop, take, Some, None, to_z, of_z, ◌∙◌, ap, subst, arith}
 use mir.Syntax.{w64, w128}
 use mir.Val.{SFits}
-use Rattle.std.proofs.lemmas.Int.{ints, to_z-of_z}
+use Rattle.std.proofs.lemmas.Int.{to_z-of_z}
 use Rattle.nil_word.specs.declared.letter.Letter.{Letter}
 use Rattle.nil_word.specs.Words.{up, inverse}
 use Rattle.nil_word.specs.Exponents.{entry}
@@ -9,10 +9,11 @@ use Rattle.nil_word.specs.Expressions.{repeated, raised}
 use Rattle.nil_pres.specs.declared.syllable.Syllable.{Syllable}
 use Rattle.nil_pres.specs.Presented.{right_of}
 use Rattle.nil_pres.specs.Relations.{relations_of}
-use Rattle.nil_word.specs.Congruence.{Relations}
 use Rattle.left_collect.specs.Conjugates.{image, conjugated}
 use Rattle.left_collect.specs.Collected.{collected}
 use Rattle.left_collect.specs.Pieces.{piece, pieces, turned}
+use Rattle.left_collect.proofs.Widened.{signed_letter, wide_exponent, turned_exponent, saved_is}
+use Rattle.left_collect.proofs.Sides.{onward_stops, back_stops}
 use Rattle.left_collect.proofs.Syllables.{conjugated-onward, conjugated-back, pieces-drop, pieces-take}
 use Rattle.left_collect.proofs.Walking.{onward, image-onward}
 use Rattle.left_collect.proofs.Steps.{goes_on, stops, taking_first, taking_more, taking_stops, last_ok, last_spent, on_err, entry_fits}
@@ -138,11 +139,6 @@ append_conjugates-returns-in_err-append_conjugate-clause-spent t c =
     (subst (λ (e : ℤ). collected rels c.args.left.now c.args.v.now (raised word e) ≡ None)
     (to_z-of_z w128 c.args.exponent c.ranges.exponent) stop)
 
-signed_letter : (k : ℕ) (b : Bool) → let x : Letter = record { number = k; up = b } in
-    turned b (up k ∷ []) ≡ x ∷ []
-signed_letter k true = refl
-signed_letter k false = refl
-
 pub append_power-taking-init : goal.append_power-taking-init
 append_power-taking-init t c =
     let rels = relations_of c.args.pres.now in
@@ -183,42 +179,6 @@ append_power-returns-in_err-append_letter-clause-spent t c =
     on_err c.from_residual.result
     (subst (λ (e : ℤ). collected rels c.args.left.now c.args.v.now (raised word e) ≡ None)
     (to_z-of_z w128 c.args.exponent c.ranges.exponent) stop)
-
--- an exponent as the code widens and turns it
-wider : (z : ℤ) → SFits w64 z → SFits w128 z
-wider z h = record { sfits = omega (arith, h.sfits) }
-
-wide_exponent : (z : ℤ) → SFits w64 z → to_z w128 (of_z w128 (to_z w64 (of_z w64 z))) ≡ z
-wide_exponent z h =
-    ap (λ (x : ℤ). to_z w128 (of_z w128 x)) (to_z-of_z w64 z h) ∙ to_z-of_z w128 z (wider z h)
-
-turned_fits : (z : ℤ) → SFits w64 z → SFits w128 (neg_ℤ z)
-turned_fits (pos zero) h = record { sfits = omega (arith, h.sfits) }
-turned_fits (pos (suc n)) h = record { sfits = omega (arith, h.sfits) }
-turned_fits (negsuc n) h = record { sfits = omega (arith, h.sfits) }
-
-turned_exponent : (z : ℤ) → SFits w64 z
-    → to_z w128 (of_z w128 (pos 0 -ℤ to_z w128 (of_z w128 (to_z w64 (of_z w64 z))))) ≡ neg_ℤ z
-turned_exponent z h =
-    let e : pos 0 -ℤ z ≡ neg_ℤ z = omega (arith, ints) in
-    ap (λ (x : ℤ). to_z w128 (of_z w128 (pos 0 -ℤ x))) (wide_exponent z h)
-    ∙ (ap (λ (x : ℤ). to_z w128 (of_z w128 x)) e ∙ to_z-of_z w128 (neg_ℤ z) (turned_fits z h))
-
--- a right side as the clauses say it
-module _ (rels : Relations) (b : ℕ) (v : List ℤ) (a : Letter) (ss ts : List Syllable)
-    (same : ss ≡ ts) where
-  onward_stops : (t : Bool) → t ≡ true → collected rels b v (pieces rels a ss) ≡ None
-      → collected rels b v (turned t (pieces rels a ts)) ≡ None
-  onward_stops t e h =
-      ap (λ (s : Bool). collected rels b v (turned s (pieces rels a ts))) e
-      ∙ (ap (λ (u : List Syllable). collected rels b v (pieces rels a u)) (sym same) ∙ h)
-
-  back_stops : (t : Bool) → t ≡ false → collected rels b v (inverse (pieces rels a ss)) ≡ None
-      → collected rels b v (turned t (pieces rels a ts)) ≡ None
-  back_stops t e h =
-      ap (λ (s : Bool). collected rels b v (turned s (pieces rels a ts))) e
-      ∙ (ap (λ (u : List Syllable). collected rels b v (inverse (pieces rels a u))) (sym same)
-      ∙ h)
 
 none : Syllable
 none = record { number = 0; exp = pos 0 }
@@ -315,9 +275,6 @@ append_right-returns-in_err-append_pieces-2-clause-spent t c =
     (omega (arith, c.back.auto.i))) spent))
 
 -- the letters of one generator behind
-saved_is : (z x : ℤ) → z ≡ x → SFits w128 x → to_z w128 (of_z w128 z) ≡ x
-saved_is z x e h = ap (λ (y : ℤ). to_z w128 (of_z w128 y)) e ∙ to_z-of_z w128 x h
-
 pub go_past-loop-k-preserved : goal.go_past-loop-k-preserved
 go_past-loop-k-preserved t c =
     let p = c.args.pres.now in
