@@ -75,12 +75,12 @@ pub refilled : {w : Ways} {c : Paired} {i : ℕ} → IsRoomOf w c i → (ws : Sp
     (first second power product : List ℤ) → IsSpaceOf ws c
     → AreOf c (first ∷ second ∷ power ∷ product ∷ [])
     → IsRoomOf record {
-    ws = ws;
-    images = w.images;
-    first = first;
-    second = second;
-    power = power;
-    product = product
+      ws = ws;
+      images = w.images;
+      first = first;
+      second = second;
+      power = power;
+      product = product;
     } c i
 refilled room ws first second power product space vectors = record {
   presented = room.presented;
