@@ -3,8 +3,8 @@
 //! are taken, and 2^24 letters are appended.
 #![tactic(auto)]
 
-pub mod collect_fault;
-pub mod collecting;
+mod collect_fault;
+mod collecting;
 mod entries;
 pub mod laws;
 mod rewriting;
