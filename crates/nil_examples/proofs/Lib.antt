@@ -1,0 +1,14 @@
+pub mod Filling
+pub mod Numbering
+pub mod Rows
+pub mod Refusing
+pub mod Tested
+pub mod Sized
+pub mod Grid
+pub mod Related
+pub mod Paired
+pub mod Columns
+pub mod Holding
+pub mod Diagonals
+pub mod Lines
+pub mod Drawing

@@ -1,0 +1,11 @@
+pub mod Sizes
+pub mod Powers
+pub mod Places
+pub mod Free
+pub mod Matrices
+pub mod ClassTwo
+pub mod Products
+pub mod Examples
+pub mod Building
+pub mod Draws
+pub mod Loads
