@@ -1,0 +1,9 @@
+pub mod Calls
+pub mod Putting
+pub mod Summing
+pub mod Joining
+pub mod Powers
+pub mod Images
+pub mod Products
+pub mod Plan
+pub mod Readings
