@@ -9,3 +9,4 @@ pub mod Halts
 pub mod Signs
 pub mod Pairs
 pub mod Verdicts
+pub mod Texts

@@ -1,5 +1,10 @@
 //! The identities of a table.
 
+ghost use Rattle.std.specs.Prelude.{Some};
+ghost use Rattle.identity_check.specs.Texts.{identity_text};
+
+use std::fmt;
+
 /// An identity of a table: a polynomial of one generator `k`, on two sides.
 #[derive(Clone, Copy, PartialEq, Eq, Debug, Drop)]
 pub enum Identity {
@@ -17,4 +22,20 @@ pub enum Identity {
     StepDown { j: u32, k: u32 },
     /// The relation of the generators `j < l` holds.
     Relation { j: u32, l: u32, k: u32 },
+}
+
+impl fmt::Display for Identity {
+    ghost output = { λ id. Some (identity_text id) };
+
+    fn fmt<W: fmt::Write>(&self, f: &mut fmt::Formatter<W>) -> fmt::Result {
+        match self {
+            Identity::UnitRight { k } => write!(f, "unit-right {k}"),
+            Identity::UnitLeft { k } => write!(f, "unit-left {k}"),
+            Identity::Up { j, k } => write!(f, "up {j} {k}"),
+            Identity::Down { j, k } => write!(f, "down {j} {k}"),
+            Identity::StepUp { j, k } => write!(f, "step-up {j} {k}"),
+            Identity::StepDown { j, k } => write!(f, "step-down {j} {k}"),
+            Identity::Relation { j, l, k } => write!(f, "relation {j} {l} {k}"),
+        }
+    }
 }

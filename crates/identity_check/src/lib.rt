@@ -14,6 +14,7 @@ mod pairs;
 mod steps;
 #[cfg(test)]
 mod tests;
+mod texts;
 mod units;
 mod verdict;
 mod walking;
