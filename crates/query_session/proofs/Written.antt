@@ -20,6 +20,7 @@ module _ (W : Status → List ℕ → Type 0) (P : List ℕ → Type 0) (f : Fed
   Wrote-whole s.ReadFault out n m h w = (out, h, w)
   Wrote-whole s.WriteFault out n m h w = absurd (n refl)
   Wrote-whole s.Memory out n m h w = absurd (m refl)
+  Wrote-whole (s.TableRefused refusal) out n m h w = (out, h, w)
   Wrote-whole s.LongInput out n m h w = (out, h, w)
   Wrote-whole (s.NotCentral j i) out n m h w = (out, h, w)
 

@@ -1,25 +1,43 @@
 -- The commands, by their words.
 --   Command                  what is to be done
+--   run_of names             the forms of `run`, by the words behind it
 --   command_of words         the command that the words ask for; none where they fit no form
+--   seen command             what contracts see of the program's own type
 --   IsUsage f s out          the words are refused, and the source is untouched
 --   IsSessionOf command limit a f ..   the session of a command, or of none
 --   IsSession limit a f ..   the session of the words, with a limit of query bytes
 -- a what is asked for · f what is fed · s status
-use Rattle.std.specs.Prelude.{◌≡◌, ℕ, List, [], Option, Some, None, option_map}
+use Rattle.std.specs.Prelude.{◌≡◌, ℕ, List, [], ◌∷◌, Option, Some, None, if◌then◌else◌, codes}
+use Rattle.std.specs.Str.{bytes_eq}
 use Rattle.session_io.specs.Asked.{Asked, Fed, IsUntouched}
 use Rattle.session_io.specs.Lines.{as_lines}
+use Rattle.query_session.specs.declared.command.Command.{Command as Named}
+use Rattle.query_session.specs.declared.command.Command.TheVariants as named
 use Rattle.query_session.specs.declared.usage_kind.UsageKind.TheVariants as reason
 use Rattle.query_session.specs.declared.status.Status.{Status}
 use Rattle.query_session.specs.declared.status.Status.TheVariants as s
 use Rattle.query_session.specs.Statuses.{text_of}
 use Rattle.query_session.specs.Runs.{IsRun}
-use Rattle.query_session.specs.Run.{run_name, IsRunOf}
+use Rattle.query_session.specs.Run.{IsRunOf}
+use Rattle.query_session.specs.RunTable.{IsRunTableOf}
 
 pub data Command : Type 0 where
   run : (pres : List ℕ) → Command
+  run_table : (pres table : List ℕ) → Command
+
+abbrev pub run_of : List (List ℕ) → Option Command
+run_of [] = None
+run_of (pres ∷ []) = Some (run pres)
+run_of (pres ∷ table ∷ []) = Some (run_table pres table)
+run_of (pres ∷ table ∷ more ∷ rest) = None
 
 abbrev pub command_of : List (List ℕ) → Option Command
-command_of words = option_map run (run_name words)
+command_of [] = None
+command_of (word ∷ names) = if bytes_eq word (codes "run") then run_of names else None
+
+abbrev pub seen : Named → Command
+seen (named.Run pres) = run pres.now
+seen (named.RunTable pres table) = run_table pres.now table.now
 
 pub record IsUsage (f : Fed) (status : Status) (out : List ℕ) : Type 0 where
   pub is : status ≡ s.Usage reason.Words
@@ -32,6 +50,7 @@ IsSessionOf None limit a f =
     IsRun (λ files taken more. IsUsage f)
     (λ files taken more. IsUsage f (s.Usage reason.Words)) limit a f
 IsSessionOf (Some (run pres)) limit a f = IsRunOf pres limit a f
+IsSessionOf (Some (run_table pres table)) limit a f = IsRunTableOf pres table limit a f
 
 abbrev pub IsSession : ℕ → Asked → Fed → Status → Option (List ℕ) → Option (List ℕ) → Type 0
 IsSession limit a f = IsSessionOf (command_of a.words) limit a f

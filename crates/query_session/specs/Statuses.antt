@@ -1,15 +1,24 @@
 -- The numbers and the texts of statuses, and where they come from.
 --   number_of status         the number that the program ends with
+--   refusal_text r           the text of a refused table
 --   text_of names status     the lines that a status writes over a presentation with these names;
 --                            none where it is Done, WriteFault or Memory
 --   end_status e             the status of an end of the source
 --   stop_status s            the status of a stop
 --   outcome_status r         the status of either
 --   file_status e            the status of a file that wasn't read
+--   pres_status fault        the status of a presentation file's first fault
+--   table_status fault       the status of a table file's first fault
 --   Ended text status .. r   the text was written and r is the status, or writing stopped
-use Rattle.std.specs.Prelude.{ℕ, List, [], ◌∷◌, codes, Option, Result, Ok, Err}
+use Rattle.std.specs.Prelude.{ℕ, List, [], ◌∷◌, ◌++◌, codes, Option, Result, Ok, Err}
 use Rattle.std.specs.Io.KnownBytes.{Appends}
+use Rattle.pres_text.specs.declared.pres_fault.PresFault.{PresFault}
+use Rattle.pres_text.specs.declared.pres_fault.PresFault.TheVariants as fault
 use Rattle.pres_text.specs.FaultTexts.{file_fault_text}
+use Rattle.table_json.specs.declared.table_fault.TableFault.{TableFault}
+use Rattle.table_json.specs.declared.table_fault.TableFault.TheVariants as table
+use Rattle.table_json.specs.FaultTexts as table_texts
+use Rattle.identity_check.specs.Texts.{identity_text, failure_text}
 use Rattle.nil_io.specs.declared.shelf_fault.ShelfFault.{ShelfFault}
 use Rattle.nil_io.specs.declared.shelf_fault.ShelfFault.TheVariants as shelf
 use Rattle.session_io.specs.declared.end.End.{End}
@@ -20,6 +29,8 @@ use Rattle.session_io.specs.Answers.{end_text}
 use Rattle.session_io.specs.Stops.{IsStopped}
 use Rattle.query_session.specs.declared.status.Status.{Status}
 use Rattle.query_session.specs.declared.status.Status.TheVariants as s
+use Rattle.query_session.specs.declared.table_refusal.TableRefusal.{TableRefusal}
+use Rattle.query_session.specs.declared.table_refusal.TableRefusal.TheVariants as r
 
 abbrev pub number_of : Status → ℕ
 number_of s.Done = 0
@@ -28,8 +39,14 @@ number_of (s.BadFile line kind) = 3
 number_of s.ReadFault = 6
 number_of s.WriteFault = 7
 number_of s.Memory = 8
+number_of (s.TableRefused refusal) = 9
 number_of s.LongInput = 10
 number_of (s.NotCentral j i) = 12
+
+abbrev pub refusal_text : TableRefusal → List ℕ
+refusal_text (r.Form fault) = table_texts.fault_text fault
+refusal_text (r.Identity failure) = codes "table refused " ++ failure_text failure
+refusal_text (r.Wide id) = codes "table wide " ++ identity_text id
 
 abbrev pub text_of : List (List ℕ) → Status → List (List ℕ)
 text_of names s.Done = []
@@ -38,6 +55,7 @@ text_of names (s.BadFile line kind) = file_fault_text line kind ∷ []
 text_of names s.ReadFault = end_text end.Failed
 text_of names s.WriteFault = []
 text_of names s.Memory = []
+text_of names (s.TableRefused refusal) = refusal_text refusal ∷ []
 text_of names s.LongInput = end_text end.Long
 text_of names (s.NotCentral j i) = codes "not central" ∷ []
 
@@ -58,6 +76,14 @@ abbrev pub file_status : ShelfFault → Status
 file_status shelf.Failed = s.ReadFault
 file_status shelf.Long = s.LongInput
 file_status shelf.Memory = s.Memory
+
+abbrev pub pres_status : PresFault → Status
+pres_status (fault.File line kind) = s.BadFile line kind
+pres_status fault.Memory = s.Memory
+
+abbrev pub table_status : TableFault → Status
+table_status table.Memory = s.Memory
+table_status fault = s.TableRefused (r.Form fault)
 
 pub data Ended (text : List ℕ) (status : Status) (old new : Option (List ℕ)) : Status → Type 0 where
   ended : Appends old new text → Ended text status old new status

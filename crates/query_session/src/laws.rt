@@ -25,11 +25,15 @@ use hall_law::laws::uniqueness;
 use hall_table::presentations::relations;
 use nil_word::laws::congruence;
 use pres_text::laws::files;
+use table_json::laws::texts;
 use word_text::laws::readings;
 
-/// A central presentation is consistent.
+/// A presentation with a table of level 1 that multiplies in it is consistent. A central presentation
+/// has such a table.
 pub fn consistent()
-    ensures { (p : Presented) → IsPresented p → not_central p ≡ None
+    ensures checked { (c : Paired) → IsPresented c.pres → IsChecked c → c.table.level ≡ 1
+        → IsConsistent (relations_of c.pres) 1 }
+    ensures central { (p : Presented) → IsPresented p → not_central p ≡ None
         → IsConsistent (relations_of p) 1 }
 {
     relations();
@@ -64,12 +68,13 @@ pub fn equal_replies()
     congruence();
 }
 
-/// A session that meets no fault answers all of a known file and known queries within their limits,
-/// or memory is wanting.
+/// A session that meets no fault answers all known queries over known files that nothing refuses, all
+/// of them within their limits, or memory is wanting.
 pub fn complete_runs()
     ensures { (limit : ℕ) (a : Asked) (f : Fed) (p : Presented) (status : Status)
         (old new : Option (List ℕ)) → IsSession limit a f status old new → IsSmooth limit a f p
         → (status ≡ s.WriteFault → ⊥) → (status ≡ s.Done) ⊎ (status ≡ s.Memory) }
 {
     files();
+    texts();
 }

@@ -3,9 +3,12 @@
 ghost use Rattle.std.specs.Prelude.{◌≡◌};
 ghost use Rattle.query_session.specs.Statuses.{number_of};
 
+use super::table_refusal::TableRefusal;
 use super::usage_kind::UsageKind;
 use nil_io::ShelfFault;
-use pres_text::FileKind;
+use pres_text::{FileKind, PresFault};
+use std::alloc::AllocError;
+use table_json::TableFault;
 
 /// How a session ends.
 #[derive(Debug, PartialEq, Eq, Drop)]
@@ -22,6 +25,8 @@ pub enum Status {
     WriteFault,
     /// Memory is wanting.
     Memory,
+    /// The table file is refused.
+    TableRefused(TableRefusal),
     /// A file or the query lines are too long.
     LongInput,
     /// The first pair whose right side has a generator that isn't central.
@@ -40,6 +45,7 @@ impl Status {
             Status::ReadFault => 6,
             Status::WriteFault => 7,
             Status::Memory => 8,
+            Status::TableRefused(_) => 9,
             Status::LongInput => 10,
             Status::NotCentral { .. } => 12,
         }
@@ -57,5 +63,41 @@ impl From<ShelfFault> for Status {
             ShelfFault::Long => Status::LongInput,
             ShelfFault::Memory => Status::Memory,
         }
+    }
+}
+
+impl From<PresFault> for Status {
+    ghost use Rattle.query_session.specs.Statuses.{pres_status};
+
+    ghost from_gives = { λ fault status. status ≡ pres_status fault };
+
+    fn from(fault: PresFault) -> Status {
+        match fault {
+            PresFault::File { line, kind } => Status::BadFile { line, kind },
+            PresFault::Memory => Status::Memory,
+        }
+    }
+}
+
+impl From<TableFault> for Status {
+    ghost use Rattle.query_session.specs.Statuses.{table_status};
+
+    ghost from_gives = { λ fault status. status ≡ table_status fault };
+
+    fn from(fault: TableFault) -> Status {
+        match fault {
+            TableFault::Memory => Status::Memory,
+            _ => Status::TableRefused(TableRefusal::Form(fault)),
+        }
+    }
+}
+
+impl From<AllocError> for Status {
+    ghost use Rattle.query_session.specs.declared.status.Status.TheVariants.{Memory};
+
+    ghost from_gives = { λ _ status. status ≡ Memory };
+
+    fn from(_refused: AllocError) -> Status {
+        Status::Memory
     }
 }

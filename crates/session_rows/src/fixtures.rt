@@ -6,6 +6,10 @@ use std::alloc::{AllocError, Global};
 
 pub(crate) const HEISENBERG: &str = "nilpotent 1\ngenerators a1 a2 a3\n[a2,a1] = a3\n";
 
+/// The text of `examples/heis.table`.
+#[rattlefmt::skip]
+pub(crate) const HEISENBERG_TABLE: &str = "{\"format\":\"hall table 1\",\"generators\":3,\"level\":1,\"polynomials\":[[[\"1\",\"x1\",1],[\"1\",\"y1\",1]],[[\"1\",\"x2\",1],[\"1\",\"y2\",1]],[[\"1\",\"x3\",1],[\"1\",\"y3\",1],[\"1\",\"x2\",1,\"y1\",1]]]}\n";
+
 /// How a session ended, and what it wrote.
 #[derive(Drop)]
 pub(crate) struct Ended {
@@ -53,6 +57,22 @@ pub(crate) fn run_over(
     let status = session(alloc, words, shelf, source, &mut sink);
     let bytes = sink.bytes().to_vec(alloc)?;
     Ok(Ended { status, bytes })
+}
+
+/// A session over a presentation, a table and queries, with no fault.
+pub(crate) fn by_table(
+    alloc: Global,
+    pres: &str,
+    table: &str,
+    queries: &[u8],
+) -> Result<Ended, AllocError> {
+    let words = words_of(alloc, &["run", "f", "t"])?;
+    let mut files = Vec::new(alloc);
+    files.push((String::from_str(alloc, "t")?, table.as_bytes().to_vec(alloc)?))?;
+    files.push((String::from_str(alloc, "f")?, pres.as_bytes().to_vec(alloc)?))?;
+    let mut shelf = MemoryShelf::new(files, Vec::new(alloc));
+    let mut source = source_of(alloc, queries, &[])?;
+    run_over(alloc, &words, &mut shelf, &mut source, &[])
 }
 
 /// A session over a file and queries, with no fault.

@@ -16,3 +16,5 @@ mod refusals;
 #[cfg(test)]
 mod rows;
 pub mod sure;
+#[cfg(test)]
+mod tables;

@@ -1,6 +1,6 @@
 //! Query lines and their replies.
 
-use super::fixtures::{HEISENBERG, answered};
+use super::fixtures::{HEISENBERG, HEISENBERG_TABLE, answered, by_table};
 use query_session::Status;
 use std::alloc::{AllocError, Global};
 use std::test::Fail;
@@ -42,6 +42,8 @@ fn lines_get_the_replies_that_were_worked_by_hand(rt: HostRuntime) -> Result<(),
         let ended = answered(rt.alloc(), HEISENBERG.as_bytes(), queries.as_bytes())?;
         assert_eq!(rt; ended.bytes.as_slice(), output.as_bytes(), "{queries}");
         assert_eq!(rt; ended.status, Status::Done, "{queries}");
+        let ended = by_table(rt.alloc(), HEISENBERG, HEISENBERG_TABLE, queries.as_bytes())?;
+        assert_eq!(rt; ended.bytes.as_slice(), output.as_bytes(), "{queries}");
     }
     Ok(())
 }
@@ -119,6 +121,9 @@ fn examples(alloc: Global) -> Result<(String, String), AllocError> {
 fn the_examples_hold(rt: HostRuntime) -> Result<(), Fail> {
     let (queries, replies) = examples(rt.alloc())?;
     let ended = answered(rt.alloc(), HEISENBERG.as_bytes(), queries.as_bytes())?;
+    assert_eq!(rt; ended.bytes.as_slice(), replies.as_bytes());
+    assert_eq!(rt; ended.status, Status::Done);
+    let ended = by_table(rt.alloc(), HEISENBERG, HEISENBERG_TABLE, queries.as_bytes())?;
     assert_eq!(rt; ended.bytes.as_slice(), replies.as_bytes());
     assert_eq!(rt; ended.status, Status::Done);
     Ok(())

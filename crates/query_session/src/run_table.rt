@@ -1,0 +1,84 @@
+//! The command `run PRES TABLE`.
+
+ghost use Rattle.std.specs.Prelude.{◌≡◌, ◌⊎◌, ℕ, List, IfOk, IfErr};
+ghost use Rattle.nil_word.specs.Congruence.{IsConsistent};
+ghost use Rattle.nil_pres.specs.Relations.{relations_of};
+ghost use Rattle.hall_table.specs.Multiplies.{Paired};
+ghost use Rattle.nil_io.specs.Causes.{Rose};
+ghost use Rattle.session_io.specs.Asked.{asked, fed};
+ghost use Rattle.query_session.specs.Limits.{query_limit};
+ghost use Rattle.query_session.specs.Opening.{HasOpened, HasRefused};
+ghost use Rattle.query_session.specs.RunTable.{IsAccepted, IsOpened, IsRefused, IsRunTableOf, IsTableRefused};
+
+use super::answering::answer_by;
+use super::calculator::Calculator;
+use super::laws::{consistent, right_replies};
+use super::limits::TABLE_LIMIT;
+use super::presentations::read_presentation;
+use super::status::Status;
+use super::table_refusal::TableRefusal;
+use identity_check::{Verdict, check};
+use nil_io::{Shelf, Sink, Source};
+use nil_pres::Presentation;
+use std::alloc::Global;
+use table_json::read_table;
+
+/// Answers the query lines over a presentation by the table of a file, which is checked.
+pub(crate) fn run_table<H: Shelf, S: Source, K: Sink>(
+    alloc: Global,
+    pres: &str,
+    table: &str,
+    shelf: &mut H,
+    queries: &mut S,
+    out: &mut K,
+) -> Status
+    ensures run { (words : List (List ℕ)) → IsRunTableOf pres.now table.now query_limit
+        (asked words (H.contents shelf.old)
+        (H.faults shelf.old) (H.faults shelf.new) (H.longs shelf.old) (H.longs shelf.new))
+        (fed (S.left queries.old) (S.left queries.new) (S.faults queries.old) (S.faults queries.new)
+        (S.given queries.old) (S.given queries.new))
+        result (K.written out.old) (K.written out.new) }
+    ensures cause { result ≡ Status.WriteFault → Rose (K.faults out.old) (K.faults out.new) }
+{
+    right_replies();
+    let opened = open(alloc, pres, table, shelf);
+    answer_by(alloc, opened, queries, out)
+}
+
+/// The calculator of a presentation and a table, or the status that refuses them.
+fn open<H: Shelf>(
+    alloc: Global,
+    pres: &str,
+    table: &str,
+    shelf: &mut H,
+) -> Result<Calculator, Status>
+    ensures opened { (words : List (List ℕ)) → IfOk result
+        (HasOpened Paired (IsOpened pres.now table.now) (asked words (H.contents shelf.old)
+        (H.faults shelf.old) (H.faults shelf.new) (H.longs shelf.old) (H.longs shelf.new))) }
+    ensures refused { (words : List (List ℕ)) → IfErr result
+        (HasRefused (IsRefused pres.now table.now) (asked words (H.contents shelf.old)
+        (H.faults shelf.old) (H.faults shelf.new) (H.longs shelf.old) (H.longs shelf.new))) }
+{
+    let pres = read_presentation(alloc, pres, shelf)?;
+    let text = shelf.read(alloc, table, TABLE_LIMIT)?;
+    by_table(alloc, &pres, &text)
+}
+
+/// The calculator of a presentation and a table's text, where the table is accepted.
+fn by_table(alloc: Global, pres: &Presentation, text: &[u8]) -> Result<Calculator, Status>
+    ensures pres { IfOk result (λ c. c.pres ≡ pres.now) }
+    ensures accepted { IfOk result (λ c. IsAccepted pres.now text.now c.table) }
+    ensures consistent { IfOk result (λ _. IsConsistent (relations_of pres.now) 1) }
+    ensures refused { IfErr result (λ s. (s ≡ Status.Memory) ⊎ IsTableRefused pres.now text.now s) }
+{
+    consistent();
+    let table = read_table(alloc, text, pres.count())?;
+    match check(alloc, pres, table)? {
+        Verdict::Accepted(checked) => {
+            let calculator = Calculator::of(alloc, checked)?;
+            Ok(calculator)
+        }
+        Verdict::Refused(failure) => Err(Status::TableRefused(TableRefusal::Identity(failure))),
+        Verdict::Wide(identity) => Err(Status::TableRefused(TableRefusal::Wide(identity))),
+    }
+}
