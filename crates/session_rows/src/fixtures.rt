@@ -68,8 +68,14 @@ pub(crate) fn by_table(
 ) -> Result<Ended, AllocError> {
     let words = words_of(alloc, &["run", "f", "t"])?;
     let mut files = Vec::new(alloc);
-    files.push((String::from_str(alloc, "t")?, table.as_bytes().to_vec(alloc)?))?;
-    files.push((String::from_str(alloc, "f")?, pres.as_bytes().to_vec(alloc)?))?;
+    files.push((
+        String::from_str(alloc, "t")?,
+        table.as_bytes().to_vec(alloc)?,
+    ))?;
+    files.push((
+        String::from_str(alloc, "f")?,
+        pres.as_bytes().to_vec(alloc)?,
+    ))?;
     let mut shelf = MemoryShelf::new(files, Vec::new(alloc));
     let mut source = source_of(alloc, queries, &[])?;
     run_over(alloc, &words, &mut shelf, &mut source, &[])

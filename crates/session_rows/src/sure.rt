@@ -3,18 +3,23 @@
 ghost use Rattle.std.specs.Prelude.{◌≡◌, ◌≤◌, ◌⊎◌, ℕ, List, Some, None, length};
 ghost use Rattle.nil_io.specs.Files.{contents_or_empty};
 ghost use Rattle.nil_pres.specs.Presented.{Presented};
+ghost use Rattle.nil_pres.specs.Relations.{relations_of};
 ghost use Rattle.pres_text.specs.File.{IsFile};
+ghost use Rattle.hall_table.specs.Tabled.{Tabled};
+ghost use Rattle.table_json.specs.Saying.{IsTableText};
+ghost use Rattle.identity_check.specs.Events.{HaveEqualSides};
 ghost use Rattle.central_table.specs.Central.{not_central};
-ghost use Rattle.query_session.specs.Limits.{file_limit, query_limit};
 ghost use Rattle.session_io.specs.Asked.{texts};
-ghost use Rattle.query_session.specs.Commands.{command_of, run};
+ghost use Rattle.query_session.specs.Limits.{file_limit, table_limit, query_limit};
+ghost use Rattle.query_session.specs.Commands.{command_of, run, run_table};
 
 use nil_io::{SureShelf, SureSink, SureSource};
 use query_session::{Status, Words, session};
 use std::alloc::Global;
 
-/// A session over infallible implementations answers all queries over a central presentation, with
-/// the file and the queries within their limits, or memory is wanting.
+/// A session over infallible implementations answers all queries over a central presentation, or
+/// over any presentation by a table that is accepted, with the files and the queries within their
+/// limits, or memory is wanting.
 pub fn sure_session(
     alloc: Global,
     words: &Words,
@@ -22,10 +27,18 @@ pub fn sure_session(
     queries: &mut SureSource,
     out: &mut SureSink,
 ) -> Status
-    ensures { (p : Presented) (name : List ℕ) → command_of (texts words.now.items) ≡ Some (run name)
+    ensures run { (p : Presented) (name : List ℕ) → command_of (texts words.now.items) ≡ Some (run name)
         → IsFile p (contents_or_empty shelf.old.files name)
         → length (contents_or_empty shelf.old.files name) ≤ file_limit
         → not_central p ≡ None → length queries.old.left ≤ query_limit
+        → (result ≡ Status.Done) ⊎ (result ≡ Status.Memory) }
+    ensures run_table { (p : Presented) (t : Tabled) (pres table : List ℕ)
+        → command_of (texts words.now.items) ≡ Some (run_table pres table)
+        → IsFile p (contents_or_empty shelf.old.files pres)
+        → length (contents_or_empty shelf.old.files pres) ≤ file_limit
+        → IsTableText (length p.names) (contents_or_empty shelf.old.files table) t
+        → length (contents_or_empty shelf.old.files table) ≤ table_limit
+        → HaveEqualSides (relations_of p) t → length queries.old.left ≤ query_limit
         → (result ≡ Status.Done) ⊎ (result ≡ Status.Memory) }
 {
     session(alloc, words, shelf, queries, out)

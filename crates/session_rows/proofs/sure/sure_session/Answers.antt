@@ -1,24 +1,42 @@
 -- No count of these ever rises.
 use Rattle.std.proofs.Common.{arith, refl}
 use Rattle.nil_io.specs.Causes.{Rose}
+use Rattle.query_session.specs.Commands.{run, run_table}
 use Rattle.session_rows.proofs.sure.sure_session.Goals as goal
 
 still : Rose 0 0 → ⊥
 still h = omega (arith, h)
 
-pub returns : goal.returns
-returns c = λ p name command is_file within central few.
+pub returns-clause-run : goal.returns-clause-run
+returns-clause-run c = λ p name command is_file within central few.
     c.session.ensures.complete p record {
-      pres = name;
-      command = command;
-      file = _;
-      known = refl;
-      is_file = is_file;
-      within = within;
-      central = central;
-      queries = _;
-      asked = refl;
-      few = few;
-      shelf = still;
-      source = still;
+      command = run name;
+      asks = command;
+      files =
+          record {
+            file = _;
+            known = record { known = refl; within = within; shelf = still };
+            is_file = is_file;
+            central = central;
+          };
+      queries = record { queries = _; known = refl; few = few; source = still };
+    } still
+
+pub returns-clause-run_table : goal.returns-clause-run_table
+returns-clause-run_table c = λ p t pres table command is_file within says table_within holds few.
+    c.session.ensures.complete p record {
+      command = run_table pres table;
+      asks = command;
+      files =
+          record {
+            file = _;
+            text = _;
+            t = t;
+            known_file = record { known = refl; within = within; shelf = still };
+            known_table = record { known = refl; within = table_within; shelf = still };
+            is_file = is_file;
+            says = says;
+            holds = holds;
+          };
+      queries = record { queries = _; known = refl; few = few; source = still };
     } still
