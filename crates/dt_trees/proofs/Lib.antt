@@ -9,4 +9,6 @@ pub mod Groups
 pub mod Variables
 pub mod Sums
 pub mod Permuted
+pub mod Taken
 pub mod Refusals
+pub mod Overflowing

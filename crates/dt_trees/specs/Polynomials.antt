@@ -15,6 +15,9 @@
 --   ConstantOverflows e t   a factor of t overflows
 --   AnyOverflows e ts       that of some tree does
 --   TreesOverflow e ts      so, or the contributions overflow before anything cancels
+--   poly_of e level k       the polynomial of type k at a level
+--   polys_of e level n      those of the n types from the level on
+--   AnyPolyOverflows e level n   one of them overflows
 -- e exponents · n count · t tree · ts trees · v variable · g group
 use Rattle.std.specs.Prelude.{ℕ, zero, suc, reverse, ◌+◌, ◌-◌, ◌*◌, ◌<◌, ◌≤◌, ◌⊎◌, ◌==◌, nat_lt, List, [], ◌∷◌, ◌++◌, map, if◌then◌else◌}
 use Rattle.binom_poly.specs.declared.part.Part.{Part}
@@ -23,6 +26,7 @@ use Rattle.binom_poly.specs.Variable.{side, x_of, y_of, exponent_limit}
 use Rattle.binom_poly.specs.Readings.{RowOverflows}
 use Rattle.binom_poly.specs.Times.{contribution}
 use Rattle.binom_poly.specs.Weight.{DoOverflow}
+use Rattle.binom_poly.specs.Collected.{collected}
 use Rattle.dt_letters.specs.declared.side.Side.{Side}
 use Rattle.dt_letters.specs.declared.side.Side.TheVariants as sides
 use Rattle.dt_letters.specs.Letters.{Letter, leaf, node, kind_of, Group, leaves, nodes, group_of}
@@ -31,6 +35,7 @@ use Rattle.dt_letters.specs.Arena.{Arena, letter_in}
 use Rattle.dt_letters.specs.Allowed.{Exponents, IsLetter, IsFrom}
 use Rattle.dt_letters.specs.Least.{greatest_in}
 use Rattle.dt_letters.specs.Terms.{exponent_at, groups_in, constant}
+use Rattle.dt_letters.specs.Listing.{trees}
 
 pub record IsOver (e : Exponents) (n : ℕ) (t : Letter) : Type 0 where
   pub letter : IsLetter e t
@@ -87,3 +92,14 @@ AnyOverflows e (t ∷ ts) = ConstantOverflows e t ⊎ AnyOverflows e ts
 
 abbrev pub TreesOverflow : Exponents → List Letter → Type 0
 TreesOverflow e ts = AnyOverflows e ts ⊎ DoOverflow (terms_of e ts)
+
+abbrev pub poly_of : Exponents → ℕ → ℕ → List Term
+poly_of e level k = collected (terms_of e (trees e level k))
+
+unfoldable pub polys_of : Exponents → ℕ → ℕ → List (List Term)
+polys_of e level zero = []
+polys_of e level (suc n) = polys_of e level n ++ poly_of e level (level + n) ∷ []
+
+abbrev pub AnyPolyOverflows : Exponents → ℕ → ℕ → Type 0
+AnyPolyOverflows e level n =
+    (i : ℕ) × (i < n) × TreesOverflow e (trees e level (level + i))

@@ -40,7 +40,8 @@ pub record AreWays (a : Arena) (ws : List Grown) (gs : List Grew) : Type 0 where
   pub ways : All (IsWay a) ws
   pub are : map (grown_in a) ws ≡ gs
 
-pub record Gains (a : Arena) (ws : List Grown) (b : Arena) (vs : List Grown) (more : List Grew) : Type 0 where
+pub record Gains (a : Arena) (ws : List Grown) (b : Arena) (vs : List Grown)
+    (more : List Grew) : Type 0 where
   pub ways : (gs : List Grew) → AreWays a ws gs → AreWays b vs (gs ++ more)
 
 abbrev pub FitsFor : ℕ → Grew → Type 0

@@ -16,7 +16,7 @@ use nil_pres::Memory;
 use std::alloc::Global;
 
 /// The trees of ways.
-fn trees_of(alloc: Global, ways: &[Grown]) -> Result<Vec<Tree>, Memory>
+pub(crate) fn trees_of(alloc: Global, ways: &[Grown]) -> Result<Vec<Tree>, Memory>
     ensures { IfOk result (λ v. v.items ≡ map (λ w. w.tree) ways.now) }
 {
     ways.iter().map(|way| way.tree).collect(alloc)

@@ -5,10 +5,13 @@ mod constants;
 mod grouping;
 mod growing;
 mod grown;
+pub mod laws;
 mod least;
+mod levels;
 mod monomials;
 mod placing;
 mod polynomial;
 
 pub use least::least_trees;
+pub use levels::tree_polys;
 pub use polynomial::tree_poly;

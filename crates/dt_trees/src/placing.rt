@@ -146,7 +146,7 @@ fn put_all_anew(
     Ok(())
 }
 
-/// Appends the ways to put a member of the group into the stack, where the limit is for its numbers.
+/// Appends the ways to put a member of the group into the stack. The limit is for its numbers.
 pub(crate) fn place(
     alloc: Global,
     letters: &mut Letters,

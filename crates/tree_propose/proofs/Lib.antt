@@ -1,0 +1,5 @@
+pub mod Terms
+pub mod Agreeing
+pub mod Shaping
+pub mod Giving
+pub mod Same
