@@ -37,8 +37,15 @@ of-requires-clause-most c =
     let level = c.args.level in
     let is = at_some (AnyOverflows p level) (AreGiven p level) c.in_ok-polys.field-0 c.in-Some.polys c.in-Some.is
     c.in_ok-polys.ensures.polys in
-    omega (arith, ap length is.0, length-polys_of (exponents_of p) level (types_from p level), c.requires.most,
-    c.count-generators.ensures.count, c.count-generators.ensures.most, ap (λ (q : Presented). length q.names) c.pres.ensures)
+    omega (
+      arith,
+      ap length is.0,
+      length-polys_of (exponents_of p) level (types_from p level),
+      c.requires.most,
+      c.count-generators.ensures.count,
+      c.count-generators.ensures.most,
+      ap (λ (q : Presented). length q.names) c.pres.ensures,
+    )
 
 pub unreachable-requires : goal.unreachable-requires
 unreachable-requires c =
