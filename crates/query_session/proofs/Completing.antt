@@ -108,7 +108,7 @@ module _ (I : Type 0) (opened : List Got → I → Type 0) (R : I → List ℕ �
     wrote_done s.ReadFault old new w n = inl (whole_done s.ReadFault w.0 w.1)
     wrote_done s.WriteFault old new w n = absurd (n refl)
     wrote_done s.Memory old new w n = inr refl
-    wrote_done (s.TableRefused refusal) old new w n = inl (whole_done (s.TableRefused refusal) w.0 w.1)
+    wrote_done (s.TableRefused table) old new w n = inl (whole_done (s.TableRefused table) w.0 w.1)
     wrote_done s.LongInput old new w n = inl (whole_done s.LongInput w.0 w.1)
     wrote_done (s.NotCentral j i) old new w n = inl (whole_done (s.NotCentral j i) w.0 w.1)
 

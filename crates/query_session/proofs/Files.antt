@@ -49,7 +49,7 @@ pub HasPresentation-later : (pres : List ℕ) (words : List (List ℕ))
     (longs longs' long_later : List ℕ → ℕ → ℕ) (p : Presented)
     → HasPresentation pres (asked words contents faults faults' longs longs') p
     → HasPresentation pres (asked words contents faults later longs long_later) p
-HasPresentation-later pres words contents faults faults' later longs longs' long_later p h = record {
+HasPresentation-later pres words contents faults faults' later longs longs' long p h = record {
   file = h.file;
   got = record { known = h.got.known; within = h.got.within };
   is_file = h.is_file;

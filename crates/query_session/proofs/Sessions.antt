@@ -48,7 +48,9 @@ left_of (Some xs) = refl
 IsTaken-untouched : (limit : ℕ) (f : Fed) → IsUntouched f
     → IsTaken limit f [] (unwrap_or f.left [])
 IsTaken-untouched limit f u = record {
-  took = subst (λ (now : Option (List ℕ)). Consumes f.left now []) (sym u.left) (Consumes-none f.left);
+  took =
+      subst (λ (now : Option (List ℕ)). Consumes f.left now []) (sym u.left)
+      (Consumes-none f.left);
   left =
       subst (λ (now : Option (List ℕ)). IfSome now (λ xs. unwrap_or f.left [] ≡ xs)) (sym u.left)
       (left_of f.left);

@@ -162,7 +162,8 @@ All-at P (d ∷ before) e after h =
 none_stops : (p : Presented) (t u : Tabled) (e : Event) → t ≡ u → HaveEqualSides (relations_of p) t
     → IsFirst (Stops (relations_of p) u) (events u.level (last_of u)) e → ⊥
 none_stops p t u e same holds first =
-    let equal : HaveEqualSides (relations_of p) u = subst (HaveEqualSides (relations_of p)) same holds in
+    let equal : HaveEqualSides (relations_of p) u =
+    subst (HaveEqualSides (relations_of p)) same holds in
     let all : All (λ d. Stops (relations_of p) u d → ⊥) (first.before ++ e ∷ first.after) =
     subst (All (λ d. Stops (relations_of p) u d → ⊥)) first.listed equal in
     All-at (λ d. Stops (relations_of p) u d → ⊥) first.before e first.after all first.holds
@@ -184,10 +185,12 @@ module _
         no_fault (length p.names) smooth.text smooth.t f few smooth.says h
     not_refused_for status (identity t f says v e) =
         none_stops p smooth.t t (tries f.identity)
-        (one_table (length p.names) smooth.text smooth.t t few smooth.says says) smooth.holds v.first
+        (one_table (length p.names) smooth.text smooth.t t few smooth.says says) smooth.holds
+        v.first
     not_refused_for status (wide t id says v) =
         none_stops p smooth.t t v.event
-        (one_table (length p.names) smooth.text smooth.t t few smooth.says says) smooth.holds v.first
+        (one_table (length p.names) smooth.text smooth.t t few smooth.says says) smooth.holds
+        v.first
 
     pub run_table_not_refused : (files : List Got) (names : List (List ℕ)) (status : Status)
         → AreGot a files → IsRefused pres table a files names status → ⊥
@@ -197,7 +200,8 @@ module _
         known_not_unread a (table_file table smooth.text) smooth.known_table e u
     run_table_not_refused files names status are (in_table file text q t is h) =
         let same : p ≡ q =
-        same_presentation one a pres smooth.file p smooth.known_file smooth.is_file file q are.0 is in
+        same_presentation one a pres smooth.file p smooth.known_file smooth.is_file file q are.0
+        is in
         let read : text ≡ smooth.text =
         got_is_known a table table_limit smooth.text text smooth.known_table are.1.0 in
         not_refused_for t (subst (λ (x : List ℕ). IsTableRefused p x t) read

@@ -1,6 +1,6 @@
 -- What a command opens before its output, or the status that refuses it.
 --   HasOpened I opened a i    i was opened, and its files were got
---   HasRefused refused a s    nothing was: the files of the refusal s were got, or memory was wanting
+--   HasRefused refused a s    the files of the refusal s were got, or memory was wanting
 -- I what is opened: opened files i · refused a files names s   s comes over a presentation with
 -- these names · a what is asked for · s status
 use Rattle.std.specs.Prelude.{◌≡◌, ℕ, ◌⊎◌, List}
@@ -9,7 +9,8 @@ use Rattle.session_io.specs.Files.{Got, AreGot}
 use Rattle.query_session.specs.declared.status.Status.{Status}
 use Rattle.query_session.specs.declared.status.Status.TheVariants as s
 
-pub record HasOpened (I : Type 0) (opened : List Got → I → Type 0) (a : Asked) (i : I) : Type 0 where
+pub record HasOpened (I : Type 0) (opened : List Got → I → Type 0) (a : Asked) (i : I)
+    : Type 0 where
   pub files : List Got
   pub got : AreGot a files
   pub is : opened files i

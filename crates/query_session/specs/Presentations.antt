@@ -25,7 +25,8 @@ pub record HasPresentation (pres : List ℕ) (a : Asked) (p : Presented) : Type 
   pub got : IsGot a (presentation pres file)
   pub is_file : IsFile p file
 
-pub data IsFileRefused (pres : List ℕ) (a : Asked) : List Got → List (List ℕ) → Status → Type 0 where
+pub data IsFileRefused (pres : List ℕ) (a : Asked) : List Got → List (List ℕ) → Status
+    → Type 0 where
   unread : (e : ShelfFault) → IsUnread a pres file_limit e
       → IsFileRefused pres a [] [] (file_status e)
   bad_file : (file : List ℕ) (line : ℕ) (kind : FileKind)

@@ -2,8 +2,8 @@
 --   table_file table text        the table file, as it is got
 --   IsAccepted p text t          the text says the table t, each identity of it holds in p and none
 --                                is wide; so t multiplies in p, as no other table of its level does
---   IsTableRefused p text s      the text is refused: by its form, by the first identity that fails,
---                                or by the first that is wide
+--   IsTableRefused p text s      the text is refused by its form, by the first identity that fails, or
+--                                by the first that is wide
 --   IsOpened pres table files c  the files say the presentation and the table of c, which is
 --                                accepted; so the presentation is consistent
 --   IsRefused pres table a ..    the status comes before the queries, with its cause

@@ -28,8 +28,8 @@ use pres_text::laws::files;
 use table_json::laws::texts;
 use word_text::laws::readings;
 
-/// A presentation with a table of level 1 that multiplies in it is consistent. A central presentation
-/// has such a table.
+/// A presentation with a table of level 1 that multiplies in it is consistent. A central one has
+/// such a table.
 pub fn consistent()
     ensures checked { (c : Paired) → IsPresented c.pres → IsChecked c → c.table.level ≡ 1
         → IsConsistent (relations_of c.pres) 1 }
@@ -68,8 +68,8 @@ pub fn equal_replies()
     congruence();
 }
 
-/// A session that meets no fault answers all known queries over known files that nothing refuses, all
-/// of them within their limits, or memory is wanting.
+/// A session that meets no fault answers all known queries over known files that nothing refuses,
+/// all of them within their limits, or memory is wanting.
 pub fn complete_runs()
     ensures { (limit : ℕ) (a : Asked) (f : Fed) (p : Presented) (status : Status)
         (old new : Option (List ℕ)) → IsSession limit a f status old new → IsSmooth limit a f p
