@@ -5,4 +5,6 @@
 #[cfg(test)]
 mod rows;
 #[cfg(test)]
+mod saying;
+#[cfg(test)]
 mod tables;

@@ -1,41 +1,11 @@
 //! What compiles say.
 
+use super::saying::{said, summed_table, wants_memory};
 use super::tables::{heisenberg, listed, steep, wide};
-use binom_poly::text;
-use hall_compile::{Compiled, Origin, Outcome, Reason, WidePlace, compile};
-use identity_check::Identity;
 use nil_propose::{Forgetful, Listed, Proposer};
-use pres_text::read;
 use std::alloc::Global;
 use std::test::Fail;
-use sum_compiler::{SumPlace, SumStep};
-
-/// The outcome for a file.
-fn outcome(alloc: Global, file: &str, proposers: Vec<Box<dyn Proposer>>) -> Result<Outcome, Fail> {
-    if proposers.len() > 64 {
-        return Err("too many proposers")?;
-    }
-    let pres = read(alloc, file.as_bytes())?;
-    Ok(compile(alloc, &pres, proposers)?)
-}
-
-/// The presentation of a file that compiles.
-fn compiled(
-    alloc: Global,
-    file: &str,
-    proposers: Vec<Box<dyn Proposer>>,
-) -> Result<Compiled, Fail> {
-    let Outcome::Compiled(compiled) = outcome(alloc, file, proposers)? else {
-        return Err("not compiled")?;
-    };
-    Ok(compiled)
-}
-
-/// The text of the last polynomial.
-fn last_text(alloc: Global, compiled: &Compiled) -> Result<String, Fail> {
-    let table = compiled.checked.table();
-    Ok(text(alloc, &table.poly(alloc, table.last())?)?)
-}
+use tree_propose::TreeProposer;
 
 /// A list of one proposer.
 fn one(alloc: Global, proposer: Box<dyn Proposer>) -> Result<Vec<Box<dyn Proposer>>, Fail> {
@@ -49,105 +19,95 @@ const HEIS: &str = "nilpotent 1\ngenerators a1 a2 a3\n[a2,a1] = a3\n";
 const FREE23: &str = "nilpotent 1\ngenerators a1 a2 a3 a4 a5\n[a2,a1] = a3\n[a3,a1] = a4\n\
     [a3,a2] = a5\n";
 
+const INCONSISTENT: &str = "nilpotent 1\ngenerators a1 a2 a3 a4 a5\n[a3,a2] = a4\n[a4,a1] = a5\n";
+
+const WIDE_OVERLAP: &str = "nilpotent 1\ngenerators a1 a2 a3 a4 a5 a6\n\
+    [a2,a1] = a5^9223372036854775807\n[a3,a1] = a4^9223372036854775807\n\
+    [a5,a4] = a6^9223372036854775807\n";
+
+const WIDE_SUM: &str = "nilpotent 1\ngenerators a1 a2 a3 a4 a5\n[a2,a1] = a3^9223372036854775807\n\
+    [a3,a1] = a4^9223372036854775807\n[a4,a1] = a5^9223372036854775807\n";
+
+const PLANE: &str = "nilpotent 1\ngenerators a1 a2\n";
+
+/// Files, what their compiles say without a proposer, and with the proposer of trees.
+#[rattlefmt::skip]
+const ROWS: [(&str, &str, &str); 5] = [
+    (
+        HEIS,
+        "consistent\nlevel 3 base\nlevel 2 sum\nlevel 1 sum\n",
+        "consistent\nlevel 3 base\nlevel 2 proposer 1\nlevel 1 proposer 1\n",
+    ),
+    (
+        FREE23,
+        "consistent\nlevel 5 base\nlevel 4 sum\nlevel 3 sum\nlevel 2 sum\nlevel 1 sum\n",
+        "consistent\nlevel 5 base\nlevel 4 proposer 1\nlevel 3 proposer 1\nlevel 2 proposer 1\nlevel 1 proposer 1\n",
+    ),
+    (
+        INCONSISTENT,
+        "inconsistent a3 a2 a1\n1 1 1 1 1\n1 1 1 1 0\n",
+        "inconsistent a3 a2 a1\n1 1 1 1 1\n1 1 1 1 0\n",
+    ),
+    (WIDE_OVERLAP, "wide overlap a3 a2 a1\n", "wide overlap a3 a2 a1\n"),
+    (WIDE_SUM, "wide sum level 1 image 2 5\n", "wide sum level 1 image 2 5\n"),
+];
+
 #[test]
-fn without_proposers_each_table_is_summed(rt: HostRuntime) -> Result<(), Fail> {
-    let alloc = rt.alloc();
-    let heis = compiled(alloc, HEIS, Vec::new(alloc))?;
-    assert!(rt; heis.by.as_slice() == [Origin::Base, Origin::Sum, Origin::Sum].as_slice());
-    assert!(rt; heis.asked.is_empty());
-    assert!(rt; last_text(alloc, &heis)?.as_str() == "x3 + y3 + x2*y1");
-    let free = compiled(alloc, FREE23, Vec::new(alloc))?;
-    assert!(rt; free.by.len() == 5);
-    let last = "x5 + y5 + x3*y2 + C(x2,2)*y1 + x2*y1*y2";
-    assert!(rt; last_text(alloc, &free)?.as_str() == last);
+fn a_compile_decides_or_names_its_place(rt: HostRuntime) -> Result<(), Fail> {
+    for (file, summed, _) in ROWS {
+        let text = said(rt.alloc(), file, Vec::new(rt.alloc()))?;
+        assert_eq!(rt; text.as_str(), summed);
+    }
     Ok(())
 }
 
 #[test]
-fn an_overlap_that_differs_ends_the_compile(rt: HostRuntime) -> Result<(), Fail> {
-    let alloc = rt.alloc();
-    let file = "nilpotent 1\ngenerators a1 a2 a3 a4 a5\n[a3,a2] = a4\n[a4,a1] = a5\n";
-    let Outcome::Inconsistent(overlap) = outcome(alloc, file, Vec::new(alloc))? else {
-        return Err("not inconsistent")?;
-    };
-    assert_eq!(rt; (overlap.i, overlap.j, overlap.k), (1, 2, 3));
-    assert_eq!(rt; overlap.left.entries(), [1, 1, 1, 1, 1].as_slice());
-    assert_eq!(rt; overlap.right.entries(), [1, 1, 1, 1, 0].as_slice());
+fn the_proposer_of_trees_is_believed_where_its_table_is_true(rt: HostRuntime) -> Result<(), Fail> {
+    for (file, _, by_trees) in ROWS {
+        let trees = one(rt.alloc(), Box::new(rt.alloc(), TreeProposer::new(1))?)?;
+        let text = said(rt.alloc(), file, trees)?;
+        assert_eq!(rt; text.as_str(), by_trees);
+    }
     Ok(())
 }
 
 #[test]
-fn the_first_place_above_128_bits_is_named(rt: HostRuntime) -> Result<(), Fail> {
-    let alloc = rt.alloc();
-    let file = "nilpotent 1\ngenerators a1 a2 a3 a4 a5 a6\n\
-        [a2,a1] = a5^9223372036854775807\n[a3,a1] = a4^9223372036854775807\n\
-        [a5,a4] = a6^9223372036854775807\n";
-    let Outcome::Wide(place) = outcome(alloc, file, Vec::new(alloc))? else {
-        return Err("not wide")?;
-    };
-    assert!(rt; place == WidePlace::Overlap { i: 1, j: 2, k: 3 });
-    let file = "nilpotent 1\ngenerators a1 a2 a3 a4 a5\n[a2,a1] = a3^9223372036854775807\n\
-        [a3,a1] = a4^9223372036854775807\n[a4,a1] = a5^9223372036854775807\n";
-    let Outcome::Wide(place) = outcome(alloc, file, Vec::new(alloc))? else {
-        return Err("not wide")?;
-    };
-    let image = SumPlace {
-        step: SumStep::Image,
-        j: 2,
-        k: 5,
-    };
-    assert!(rt;
-        place
-            == WidePlace::Sum {
-                level: 1,
-                place: image
-            }
-    );
+fn a_summed_table_is_the_written_one(rt: HostRuntime) -> Result<(), Fail> {
+    let text = summed_table(rt.alloc(), HEIS)?;
+    let row =
+        r#"{"format":"hall table 1","generators":3,"level":1,"polynomials":[[["1","x1",1],["1","y1",1]],[["1","x2",1],["1","y2",1]],[["1","x3",1],["1","y3",1],["1","x2",1,"y1",1]]]}"#;
+    assert_eq!(rt; text.as_str(), row);
     Ok(())
 }
 
 #[test]
 fn a_false_table_is_refused_at_its_level(rt: HostRuntime) -> Result<(), Fail> {
     let alloc = rt.alloc();
-    let false_one = listed(alloc, 7, 1, heisenberg(alloc, false)?)?;
-    let heis = compiled(alloc, HEIS, one(alloc, false_one)?)?;
-    assert!(rt; heis.by.as_slice() == [Origin::Base, Origin::Sum, Origin::Sum].as_slice());
-    let [above, first] = heis.asked.as_slice() else {
-        return Err("not asked twice")?;
-    };
-    assert!(rt; above.level == 2 && above.label == 7);
-    assert!(rt; matches!(&above.reason, Reason::NoTable));
-    assert!(rt; first.level == 1 && first.label == 7);
-    let Reason::Refused(failure) = &first.reason else {
-        return Err("not refused")?;
-    };
-    assert!(rt; failure.identity == Identity::Relation { j: 1, l: 2, k: 3 });
+    let turned = listed(alloc, 7, 1, heisenberg(alloc, false)?)?;
+    let text = said(alloc, HEIS, one(alloc, turned)?)?;
+    let lines = "consistent\nlevel 3 base\nlevel 2 asked 7 none\nlevel 2 sum\n\
+        level 1 asked 7 refused relation 1 2 3\nlevel 1 sum\n";
+    assert_eq!(rt; text.as_str(), lines);
+    let power = listed(alloc, 9, 2, steep(alloc)?)?;
+    let text = said(alloc, HEIS, one(alloc, power)?)?;
+    let lines = "consistent\nlevel 3 base\nlevel 2 asked 9 refused up 2 3\nlevel 2 sum\n\
+        level 1 asked 9 none\nlevel 1 sum\n";
+    assert_eq!(rt; text.as_str(), lines);
     Ok(())
 }
 
 #[test]
-fn tables_that_lie_are_not_taken(rt: HostRuntime) -> Result<(), Fail> {
+fn a_table_of_another_level_or_a_wide_one_is_not_taken(rt: HostRuntime) -> Result<(), Fail> {
     let alloc = rt.alloc();
-    let heis = compiled(
-        alloc,
-        HEIS,
-        one(alloc, listed(alloc, 9, 2, steep(alloc)?)?)?,
-    )?;
-    let Some(Reason::Refused(failure)) = heis.asked.first().map(|asked| &asked.reason) else {
-        return Err("not refused")?;
-    };
-    assert!(rt; failure.identity == Identity::Up { j: 2, k: 3 });
     let low = listed(alloc, 9, 2, heisenberg(alloc, true)?)?;
-    let heis = compiled(alloc, HEIS, one(alloc, low)?)?;
-    let Some(Reason::WrongLevel) = heis.asked.first().map(|asked| &asked.reason) else {
-        return Err("not of another level")?;
-    };
-    let file = "nilpotent 1\ngenerators a1 a2\n";
-    let two = compiled(alloc, file, one(alloc, listed(alloc, 9, 1, wide(alloc)?)?)?)?;
-    let Some(Reason::Wide(identity)) = two.asked.first().map(|asked| &asked.reason) else {
-        return Err("not wide")?;
-    };
-    assert!(rt; *identity == Identity::Down { j: 1, k: 2 });
+    let text = said(alloc, HEIS, one(alloc, low)?)?;
+    let lines = "consistent\nlevel 3 base\nlevel 2 asked 9 wrong level\nlevel 2 sum\n\
+        level 1 asked 9 none\nlevel 1 sum\n";
+    assert_eq!(rt; text.as_str(), lines);
+    let large = listed(alloc, 9, 1, wide(alloc)?)?;
+    let text = said(alloc, PLANE, one(alloc, large)?)?;
+    let lines = "consistent\nlevel 2 base\nlevel 1 asked 9 wide down 1 2\nlevel 1 sum\n";
+    assert_eq!(rt; text.as_str(), lines);
     Ok(())
 }
 
@@ -155,10 +115,12 @@ fn tables_that_lie_are_not_taken(rt: HostRuntime) -> Result<(), Fail> {
 fn the_first_accepted_table_is_taken(rt: HostRuntime) -> Result<(), Fail> {
     let alloc = rt.alloc();
     let mut proposers = one(alloc, Box::new(alloc, Listed::new(5, Vec::new(alloc)))?)?;
-    proposers.push(listed(alloc, 5, 1, heisenberg(alloc, true)?)?)?;
-    let heis = compiled(alloc, HEIS, proposers)?;
-    assert!(rt; heis.by.as_slice() == [Origin::Base, Origin::Sum, Origin::Proposer(5)].as_slice());
-    assert!(rt; heis.asked.len() == 3);
+    proposers.push(listed(alloc, 6, 1, heisenberg(alloc, true)?)?)?;
+    let text = said(alloc, HEIS, proposers)?;
+    let lines =
+        "consistent\nlevel 3 base\nlevel 2 asked 5 none\nlevel 2 asked 6 none\nlevel 2 sum\n\
+        level 1 asked 5 none\nlevel 1 proposer 6\n";
+    assert_eq!(rt; text.as_str(), lines);
     Ok(())
 }
 
@@ -167,9 +129,6 @@ fn a_proposer_that_wants_memory_is_asked_before_any_sum(rt: HostRuntime) -> Resu
     let alloc = rt.alloc();
     let forgetful = Forgetful::new(Listed::new(5, Vec::new(alloc)), 1);
     let proposers = one(alloc, Box::new(alloc, forgetful)?)?;
-    let pres = read(alloc, HEIS.as_bytes())?;
-    if proposers.len() <= 64 {
-        assert!(rt; compile(alloc, &pres, proposers).is_err());
-    }
+    assert!(rt; wants_memory(alloc, HEIS, proposers)?);
     Ok(())
 }
