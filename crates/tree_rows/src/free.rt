@@ -9,7 +9,7 @@ use std::alloc::Global;
 use std::test::Fail;
 
 /// `[a2,a1] = a3`, `[a3,a1] = a4` and `[a3,a2] = a5`.
-pub(crate) fn free(alloc: Global) -> Result<Letters, Fail>
+fn free(alloc: Global) -> Result<Letters, Fail>
     ensures { IfOk result (λ a. length a.pres.names ≡ 5) }
 {
     let mut builder = five_names(alloc)?;
@@ -41,7 +41,7 @@ fn the_polynomial_of_the_last_type(rt: HostRuntime) -> Result<(), Fail> {
     Ok(())
 }
 
-pub(crate) const POLYS: &str = "x1 + y1
+const POLYS: &str = "x1 + y1
 x2 + y2
 x3 + y3 + x2*y1
 x4 + y4 + x3*y1 + x2*C(y1,2)

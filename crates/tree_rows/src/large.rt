@@ -9,7 +9,7 @@ use std::alloc::Global;
 use std::test::Fail;
 
 /// Each of `[a2,a1]`, `[a3,a1]` and `[a4,a1]` is the greatest power of the next generator.
-pub(crate) fn large(alloc: Global) -> Result<Letters, Fail>
+fn large(alloc: Global) -> Result<Letters, Fail>
     ensures { IfOk result (λ a. length a.pres.names ≡ 5) }
 {
     let mut builder = five_names(alloc)?;

@@ -1,5 +1,5 @@
-//! Least trees, their polynomials and the proposer of trees over small presentations: tests in a
-//! crate of their own, so that what they test is proved once. Nothing is promised here.
+//! Least trees and their polynomials over small presentations: tests in a crate of their own, so
+//! that what they test is proved once. Nothing is promised here.
 #![tactic(auto)]
 
 #[cfg(test)]
@@ -8,7 +8,5 @@ mod fixtures;
 mod free;
 #[cfg(test)]
 mod large;
-#[cfg(test)]
-mod proposed;
 #[cfg(test)]
 mod series;
