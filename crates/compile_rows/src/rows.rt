@@ -84,12 +84,12 @@ fn a_summed_table_is_the_written_one(rt: HostRuntime) -> Result<(), Fail> {
 fn a_false_table_is_refused_at_its_level(rt: HostRuntime) -> Result<(), Fail> {
     let alloc = rt.alloc();
     let turned = listed(alloc, 7, 1, heisenberg(alloc, false)?)?;
-    let text = said(alloc, HEIS, one(alloc, turned)?)?;
+    let text = said(alloc, HEIS, one(alloc, Box::new(alloc, turned)?)?)?;
     let lines = "consistent\nlevel 3 base\nlevel 2 asked 7 none\nlevel 2 sum\n\
         level 1 asked 7 refused relation 1 2 3\nlevel 1 sum\n";
     assert_eq!(rt; text.as_str(), lines);
     let power = listed(alloc, 9, 2, steep(alloc)?)?;
-    let text = said(alloc, HEIS, one(alloc, power)?)?;
+    let text = said(alloc, HEIS, one(alloc, Box::new(alloc, power)?)?)?;
     let lines = "consistent\nlevel 3 base\nlevel 2 asked 9 refused up 2 3\nlevel 2 sum\n\
         level 1 asked 9 none\nlevel 1 sum\n";
     assert_eq!(rt; text.as_str(), lines);
@@ -100,12 +100,12 @@ fn a_false_table_is_refused_at_its_level(rt: HostRuntime) -> Result<(), Fail> {
 fn a_table_of_another_level_or_a_wide_one_is_not_taken(rt: HostRuntime) -> Result<(), Fail> {
     let alloc = rt.alloc();
     let low = listed(alloc, 9, 2, heisenberg(alloc, true)?)?;
-    let text = said(alloc, HEIS, one(alloc, low)?)?;
+    let text = said(alloc, HEIS, one(alloc, Box::new(alloc, low)?)?)?;
     let lines = "consistent\nlevel 3 base\nlevel 2 asked 9 wrong level\nlevel 2 sum\n\
         level 1 asked 9 none\nlevel 1 sum\n";
     assert_eq!(rt; text.as_str(), lines);
     let large = listed(alloc, 9, 1, wide(alloc)?)?;
-    let text = said(alloc, PLANE, one(alloc, large)?)?;
+    let text = said(alloc, PLANE, one(alloc, Box::new(alloc, large)?)?)?;
     let lines = "consistent\nlevel 2 base\nlevel 1 asked 9 wide down 1 2\nlevel 1 sum\n";
     assert_eq!(rt; text.as_str(), lines);
     Ok(())
@@ -115,7 +115,8 @@ fn a_table_of_another_level_or_a_wide_one_is_not_taken(rt: HostRuntime) -> Resul
 fn the_first_accepted_table_is_taken(rt: HostRuntime) -> Result<(), Fail> {
     let alloc = rt.alloc();
     let mut proposers = one(alloc, Box::new(alloc, Listed::new(5, Vec::new(alloc)))?)?;
-    proposers.push(listed(alloc, 6, 1, heisenberg(alloc, true)?)?)?;
+    let second = listed(alloc, 6, 1, heisenberg(alloc, true)?)?;
+    proposers.push(Box::new(alloc, second)?)?;
     let text = said(alloc, HEIS, proposers)?;
     let lines =
         "consistent\nlevel 3 base\nlevel 2 asked 5 none\nlevel 2 asked 6 none\nlevel 2 sum\n\

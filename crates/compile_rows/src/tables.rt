@@ -5,7 +5,7 @@ ghost use Rattle.std.specs.Prelude.{◌≤◌};
 use binom_poly::{Poly, add, mul, scale, var, x_of, y_of};
 use hall_table::Table;
 use nil_num::MAX;
-use nil_propose::{Listed, Offer, Proposer};
+use nil_propose::{Listed, Offer};
 use poly_subst::choose;
 use std::alloc::Global;
 use std::test::Fail;
@@ -62,13 +62,8 @@ pub(crate) fn wide(alloc: Global) -> Result<Table, Fail> {
 }
 
 /// A proposer with one offer.
-pub(crate) fn listed(
-    alloc: Global,
-    label: u32,
-    level: u32,
-    table: Table,
-) -> Result<Box<dyn Proposer>, Fail> {
+pub(crate) fn listed(alloc: Global, label: u32, level: u32, table: Table) -> Result<Listed, Fail> {
     let mut offers = Vec::new(alloc);
     offers.push(Offer { level, table })?;
-    Ok(Box::new(alloc, Listed::new(label, offers))?)
+    Ok(Listed::new(label, offers))
 }
