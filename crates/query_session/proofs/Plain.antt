@@ -1,6 +1,6 @@
 -- Refusals that are no write fault and no want of memory.
 --   IsPlain status   it is neither
-use Rattle.std.proofs.Common.{◌≡◌, ℕ, ◌⊎◌, List}
+use Rattle.std.proofs.Common.{◌≡◌, ℕ, List}
 use Rattle.nil_io.specs.declared.shelf_fault.ShelfFault.{ShelfFault}
 use Rattle.session_io.specs.Asked.{Asked}
 use Rattle.session_io.specs.Files as files

@@ -1,5 +1,5 @@
 -- The command `run PRES`: what was opened, or refused.
-use Rattle.std.proofs.Common.{◌≡◌, ℕ, ◌⊎◌, inl, inr, List, [], ◌∷◌, Option, Some, None, Result, Ok, Err, IfOk, IfErr, refl, sym, subst}
+use Rattle.std.proofs.Common.{◌≡◌, ℕ, ◌⊎◌, inl, inr, List, [], ◌∷◌, None, Result, Ok, Err, IfOk, IfErr, refl, sym, subst}
 use Rattle.nil_word.specs.Congruence.{IsConsistent}
 use Rattle.nil_pres.specs.Presented.{Presented}
 use Rattle.nil_pres.specs.Relations.{relations_of}
