@@ -32,7 +32,15 @@ fn answer(rt: &HostRuntime, words: &Words) -> Status {
     let mut shelf = FileShelf::new(rt);
     let mut queries = InputSource::new(rt.reader());
     let mut out = OutputSink::new(io::writer(rt));
-    session(rt.alloc(), words, &mut shelf, &mut queries, &mut out)
+    let proposers = Vec::new(rt.alloc());
+    session(
+        rt.alloc(),
+        words,
+        &mut shelf,
+        &mut queries,
+        &mut out,
+        proposers,
+    )
 }
 
 /// The words behind the program's name.

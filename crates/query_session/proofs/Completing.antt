@@ -105,12 +105,13 @@ module _ (I : Type 0) (opened : List Got → I → Type 0) (R : I → List ℕ �
     wrote_done s.Done old new w n = inl refl
     wrote_done (s.Usage kind) old new w n = inl (whole_done (s.Usage kind) w.0 w.1)
     wrote_done (s.BadFile line kind) old new w n = inl (whole_done (s.BadFile line kind) w.0 w.1)
+    wrote_done (s.Inconsistent o) old new w n = inl (whole_done (s.Inconsistent o) w.0 w.1)
+    wrote_done (s.Wide at) old new w n = inl (whole_done (s.Wide at) w.0 w.1)
     wrote_done s.ReadFault old new w n = inl (whole_done s.ReadFault w.0 w.1)
     wrote_done s.WriteFault old new w n = absurd (n refl)
     wrote_done s.Memory old new w n = inr refl
     wrote_done (s.TableRefused table) old new w n = inl (whole_done (s.TableRefused table) w.0 w.1)
     wrote_done s.LongInput old new w n = inl (whole_done s.LongInput w.0 w.1)
-    wrote_done (s.NotCentral j i) old new w n = inl (whole_done (s.NotCentral j i) w.0 w.1)
 
   pub IsRunOver-done : (status : Status) (old new : Option (List ℕ))
       → IsRunOver I opened R refused limit a f status old new

@@ -1,5 +1,5 @@
 -- Files that were got, or the status that refuses them.
-use Rattle.std.proofs.Common.{◌≡◌, ℕ, ◌≤◌, ◌⊎◌, inl, inr, List, [], ◌∷◌, Option, Some, IfSome, length, refl, sym, subst, arith}
+use Rattle.std.proofs.Common.{◌≡◌, ℕ, ◌≤◌, ◌⊎◌, inl, inr, List, [], ◌∷◌, Option, Some, IfSome, length, refl, sym, ap, subst, arith}
 use Rattle.nil_pres.specs.Presented.{Presented}
 use Rattle.pres_text.specs.declared.pres_fault.PresFault.{PresFault}
 use Rattle.pres_text.specs.declared.pres_fault.PresFault.TheVariants as fault
@@ -10,12 +10,16 @@ use Rattle.nil_io.specs.Causes.{Rose}
 use Rattle.session_io.specs.Asked.{Asked, asked}
 use Rattle.session_io.specs.Files as files
 use Rattle.session_io.specs.Files.{Got, IsGot, IsUnread}
+use Rattle.session_io.specs.Lines.{as_lines}
+use Rattle.query_session.specs.declared.refusal.Refusal.{Refusal}
 use Rattle.query_session.specs.declared.status.Status.{Status}
 use Rattle.query_session.specs.declared.status.Status.TheVariants as s
 use Rattle.query_session.specs.Limits.{file_limit}
-use Rattle.query_session.specs.Statuses.{file_status, pres_status}
-use Rattle.query_session.specs.Opening.{HasRefused}
+use Rattle.query_session.specs.Statuses.{file_status, pres_status, plain_text, text_of}
+use Rattle.query_session.specs.Opening.{HasRefused, HasRefusal}
+use Rattle.query_session.specs.Refusals.{plain, Says}
 use Rattle.query_session.specs.Presentations.{presentation, HasPresentation, IsFileRefused, unread, bad_file}
+use Rattle.query_session.proofs.Plain.{IsUnnamed}
 
 -- how a reading fails
 pub IsUnread-fault : (a : Asked) (name : List ℕ) (limit : ℕ) (e : ShelfFault)
@@ -67,6 +71,35 @@ HasRefused-weaker refused other weaker a status h =
         → (status ≡ s.Memory) ⊎ ((names : List (List ℕ)) × other a h.files names status)
     either (inl m) = inl m
     either (inr (names, k)) = inr (names, weaker a h.files names status k)
+
+-- a refusal whose text names no generator
+pub HasRefusal-plain : (refused : Asked → List Got → List (List ℕ) → Status → Type 0) (a : Asked)
+    → ((files : List Got) (names : List (List ℕ)) (status : Status) → refused a files names status
+    → IsUnnamed status)
+    → (status : Status) → HasRefused refused a status → HasRefusal refused a (plain status)
+HasRefusal-plain refused a unnamed status h =
+    record { files = h.files; got = h.got; cause = either h.cause }
+  where
+    either : (status ≡ s.Memory) ⊎ ((names : List (List ℕ)) × refused a h.files names status)
+        → (status ≡ s.Memory)
+        ⊎ ((names : List (List ℕ)) × refused a h.files names status
+        × (as_lines (plain_text status) ≡ as_lines (text_of names status)))
+    either (inl m) = inl m
+    either (inr (names, k)) = inr (names, k, ap as_lines (unnamed h.files names status k names))
+
+pub HasRefusal-weaker : (refused other : Asked → List Got → List (List ℕ) → Status → Type 0)
+    → ((a : Asked) (files : List Got) (names : List (List ℕ)) (status : Status)
+    → refused a files names status → other a files names status)
+    → (a : Asked) (r : Refusal) → HasRefusal refused a r → HasRefusal other a r
+HasRefusal-weaker refused other weaker a r h =
+    record { files = h.files; got = h.got; cause = either h.cause }
+  where
+    either : (r.status ≡ s.Memory)
+        ⊎ ((names : List (List ℕ)) × refused a h.files names r.status × Says names r)
+        → (r.status ≡ s.Memory)
+        ⊎ ((names : List (List ℕ)) × other a h.files names r.status × Says names r)
+    either (inl m) = inl m
+    either (inr (names, k, says)) = inr (names, weaker a h.files names r.status k, says)
 
 module _ (a : Asked) (pres : List ℕ) where
   pub HasRefused-unread : (e : ShelfFault)

@@ -13,7 +13,6 @@ use Rattle.nil_pres.specs.Relations.{relations_of}
 use Rattle.word_text.specs.declared.query_fault.QueryFault.{QueryFault}
 use Rattle.word_text.specs.Lines.{ReadsAs, FailsWith}
 use Rattle.word_text.specs.Reading.{reading}
-use Rattle.central_table.specs.Central.{central_table, not_central}
 use Rattle.group_eval.specs.declared.reply.Reply.{Reply}
 use Rattle.group_eval.specs.declared.reply.Reply.TheVariants as reply_kind
 use Rattle.group_eval.specs.Queries.{answered, IsWide}
@@ -85,29 +84,3 @@ pub IsReply-checked : OfChecked AnsweredIs → (c : Paired)
 IsReply-checked answers c reads fails shaped line presented tabled checked level =
     IsReply-reply c reads fails shaped
     (λ q shape narrow. answers c presented tabled checked q level shape narrow) line
-
-abbrev central : Presented → Paired
-central p = record { pres = p; table = central_table p }
-
-pub IsReply-central : OfChecked AnsweredIs
-    → ((q : Presented) → IsPresented q → IsTabled (central_table q))
-    → ((q : Presented) → last_of (central_table q) ≡ length q.names)
-    → ((q : Presented) → IsPresented q → not_central q ≡ None
-    → IsTable (relations_of q) 1 (values (central_table q)))
-    → (c : Paired)
-    → ((line : List ℕ) (q : Query) → ReadsAs c.pres.names line q ↔ (reading c.pres.names line ≡ Ok q))
-    → ((line : List ℕ) (f : QueryFault)
-    → FailsWith c.pres.names line f ↔ (reading c.pres.names line ≡ Err f))
-    → ((line : List ℕ) (q : Query) → ReadsAs c.pres.names line q
-    → IsShapedQuery (length c.pres.names) q)
-    → (line : List ℕ) → IsPresented c.pres → not_central c.pres ≡ None
-    → c.table ≡ central_table c.pres → IsReply c line (reply c line)
-IsReply-central answers tabled last multiplies c reads fails shaped line presented none e =
-    let right : IsReply (central c.pres) line (reply (central c.pres) line) =
-    IsReply-checked answers (central c.pres) reads fails shaped line presented
-    (tabled c.pres presented)
-    (record { last = last c.pres; multiplies = multiplies c.pres presented none }) refl in
-    let P : Tabled → Type 0 =
-    λ t. IsReply (record { pres = c.pres; table = t }) line
-    (reply (record { pres = c.pres; table = t }) line) in
-    subst P (sym e) right

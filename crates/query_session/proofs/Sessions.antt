@@ -1,6 +1,8 @@
 -- Sessions of a command that answers lines, and of words that fit no form.
 use Rattle.std.proofs.Common.{◌≡◌, ℕ, ◌+◌, ◌≤◌, ◌⊎◌, inl, inr, List, [], Option, Some, None, Result, Ok, Err, IfOk, IfErr, IfSome, unwrap_or, refl, sym, subst, arith}
 use Rattle.std.specs.Io.KnownBytes.{Appends, Consumes}
+use Rattle.nil_pres.specs.Presented.{Presented}
+use Rattle.hall_compile.specs.Proposals.{Proposal}
 use Rattle.session_io.specs.declared.end.End.{End}
 use Rattle.session_io.specs.declared.end.End.TheVariants as end
 use Rattle.session_io.specs.declared.stop.Stop.{Stop}
@@ -14,27 +16,17 @@ use Rattle.session_io.specs.Stops.{IsFront}
 use Rattle.session_io.proofs.Appending.{Appends-none}
 use Rattle.session_io.proofs.Weakening.{IsAnswered-weaker}
 use Rattle.query_session.specs.declared.usage_kind.UsageKind.TheVariants as reason
+use Rattle.query_session.specs.declared.refusal.Refusal.{Refusal}
 use Rattle.query_session.specs.declared.status.Status.{Status}
 use Rattle.query_session.specs.declared.status.Status.TheVariants as s
 use Rattle.query_session.specs.Statuses.{text_of, outcome_status, Ended}
-use Rattle.query_session.specs.Runs.{IsWhole, before, answered, IsPromise, refusal, answers, nothing, at_line, Wrote, IsRunOver}
-use Rattle.query_session.specs.Opening.{HasOpened, HasRefused}
-use Rattle.query_session.specs.Ends.{IsAnsweredAs, IsRefusedAs}
+use Rattle.query_session.specs.Runs.{IsWhole, before, answered, IsPromise, refusal, answers, nothing, at_line, Wrote, IsRun, IsRunOver}
+use Rattle.query_session.specs.Refusals.{Says}
+use Rattle.query_session.specs.Opening.{HasOpened, HasRefusal}
+use Rattle.query_session.specs.Ends.{IsAnsweredAs, IsRefusedAs, RefusesWith}
 use Rattle.query_session.specs.Commands.{Command, IsUsage, IsSessionOf, IsSession, command_of, run, run_table}
 use Rattle.query_session.proofs.Plain.{IsPlain}
 use Rattle.query_session.proofs.Written.{Wrote-ended}
-
--- the names of generators stand in no text of these statuses
-text_of-none : (names : List (List ℕ)) (status : Status) → text_of [] status ≡ text_of names status
-text_of-none names s.Done = refl
-text_of-none names (s.Usage kind) = refl
-text_of-none names (s.BadFile line kind) = refl
-text_of-none names s.ReadFault = refl
-text_of-none names s.WriteFault = refl
-text_of-none names s.Memory = refl
-text_of-none names (s.TableRefused table) = refl
-text_of-none names s.LongInput = refl
-text_of-none names (s.NotCentral j i) = refl
 
 -- nothing was taken of a source that isn't touched
 Consumes-none : (left : Option (List ℕ)) → Consumes left left []
@@ -59,11 +51,12 @@ IsTaken-untouched limit f u = record {
 }
 
 -- the words fit no form
-pub IsSessionOf-usage : (limit : ℕ) (a : Asked) (f : Fed) (r : Status) (o n : Option (List ℕ))
+pub IsRun-usage : (limit : ℕ) (a : Asked) (f : Fed) (r : Status) (o n : Option (List ℕ))
     → IsUntouched f
     → Ended (as_lines (text_of [] (s.Usage reason.Words))) (s.Usage reason.Words) o n r
-    → IsSessionOf None limit a f r o n
-IsSessionOf-usage limit a f r o n u h =
+    → IsRun (λ files taken more. IsUsage f)
+    (λ files taken more. IsUsage f (s.Usage reason.Words)) limit a f r o n
+IsRun-usage limit a f r o n u h =
     let usage : IsUsage f (s.Usage reason.Words) (as_lines (text_of [] (s.Usage reason.Words))) =
     record { is = refl; text = refl; untouched = u } in
     record {
@@ -81,8 +74,8 @@ module _ (I : Type 0) (opened : List Got → I → Type 0) (R : I → List ℕ �
     (refused : Asked → List Got → List (List ℕ) → Status → Type 0) (limit : ℕ) (a : Asked) (f : Fed)
     (o n : Option (List ℕ)) where
   -- a session that was refused, or found no memory before the lines
-  module _ (status r : Status) (h : IsRefusedAs status f r o n) (files : List Got) where
-    refused_short : status ≡ s.Memory
+  module _ (d : Refusal) (r : Status) (h : IsRefusedAs d f r o n) (files : List Got) where
+    refused_short : d.status ≡ s.Memory
         → Wrote (IsWhole I opened R (refused a) limit f files [] (unwrap_or f.left []))
         (IsPromise I opened R (refused a) limit f files [] (unwrap_or f.left [])) f r o n
     refused_short m =
@@ -96,36 +89,38 @@ module _ (I : Type 0) (opened : List Got → I → Type 0) (R : I → List ℕ �
           subst (λ (x : Option (List ℕ)). Appends o x []) (sym k.1) (Appends-none o),
         )
 
-    refused_whole : (names : List (List ℕ)) → refused a files names status → IsPlain status
+    refused_whole : (names : List (List ℕ)) → refused a files names d.status → Says names d
+        → IsPlain d.status
         → Wrote (IsWhole I opened R (refused a) limit f files [] (unwrap_or f.left []))
         (IsPromise I opened R (refused a) limit f files [] (unwrap_or f.left [])) f r o n
-    refused_whole names k plain =
+    refused_whole names k says plain =
         Wrote-ended (IsWhole I opened R (refused a) limit f files [] (unwrap_or f.left []))
-        (IsPromise I opened R (refused a) limit f files [] (unwrap_or f.left [])) f o n status
-        (as_lines (text_of names status)) r plain.0 plain.1
-        (before names status k h.untouched) (refusal names status k h.untouched)
-        (subst (λ (t : List (List ℕ)). Ended (as_lines t) status o n r) (text_of-none names status)
-        (h.written plain.1))
+        (IsPromise I opened R (refused a) limit f files [] (unwrap_or f.left [])) f o n d.status
+        (as_lines (text_of names d.status)) r plain.0 plain.1
+        (before names d.status k h.untouched) (refusal names d.status k h.untouched)
+        (subst (λ (t : List ℕ). Ended t d.status o n r) says (h.written plain.1))
 
-    refused_either : (plain : (names : List (List ℕ)) → refused a files names status
-        → IsPlain status)
-        → (status ≡ s.Memory) ⊎ ((names : List (List ℕ)) × refused a files names status)
+    refused_either : (plain : (names : List (List ℕ)) → refused a files names d.status
+        → IsPlain d.status)
+        → (d.status ≡ s.Memory)
+        ⊎ ((names : List (List ℕ)) × refused a files names d.status × Says names d)
         → Wrote (IsWhole I opened R (refused a) limit f files [] (unwrap_or f.left []))
         (IsPromise I opened R (refused a) limit f files [] (unwrap_or f.left [])) f r o n
     refused_either plain (inl m) = refused_short m
-    refused_either plain (inr (names, k)) = refused_whole names k (plain names k)
+    refused_either plain (inr (names, k, says)) = refused_whole names k says (plain names k)
 
-  IsRunOver-refused : (status r : Status)
-      → ((files : List Got) (names : List (List ℕ)) → refused a files names status → IsPlain status)
-      → HasRefused refused a status → IsRefusedAs status f r o n
+  IsRunOver-refused : (d : Refusal) (r : Status)
+      → ((files : List Got) (names : List (List ℕ)) → refused a files names d.status
+      → IsPlain d.status)
+      → HasRefusal refused a d → IsRefusedAs d f r o n
       → IsRunOver I opened R refused limit a f r o n
-  IsRunOver-refused status r plain k h = record {
+  IsRunOver-refused d r plain k h = record {
     files = k.files;
     got = k.got;
     taken = [];
     more = unwrap_or f.left [];
     took = IsTaken-untouched limit f h.untouched;
-    wrote = refused_either status r h k.files (plain k.files) k.cause;
+    wrote = refused_either d r h k.files (plain k.files) k.cause;
   }
 
   -- a session over what was opened
@@ -178,49 +173,51 @@ module _ (I : Type 0) (opened : List Got → I → Type 0) (R : I → List ℕ �
       → refused a files names status → IsPlain status) (reply : I → List ℕ → List ℕ)
       (right : (i : I) → HasOpened I opened a i → (line : List ℕ) → R i line (reply i line))
       (r : Status) where
-    pub IsRunOver-result : (found : Result I Status) → IfOk found (HasOpened I opened a)
-        → IfErr found (HasRefused refused a)
+    pub IsRunOver-result : (found : Result I Refusal) → IfOk found (HasOpened I opened a)
+        → IfErr found (HasRefusal refused a)
         → IfOk found (λ i. IsAnsweredAs (by_reply (reply i)) limit f r o n)
-        → IfErr found (λ status. IsRefusedAs status f r o n)
+        → IfErr found (λ d. IsRefusedAs d f r o n)
         → IsRunOver I opened R refused limit a f r o n
     IsRunOver-result (Ok i) h k answer none = IsRunOver-answered i (reply i) r h (right i h) answer
-    IsRunOver-result (Err status) h k none said =
-        IsRunOver-refused status r (λ files names. plain files names status) k said
+    IsRunOver-result (Err d) h k none said =
+        IsRunOver-refused d r (λ files names. plain files names d.status) k said
 
 -- a write fault comes from the sink
 module _ (I : Type 0) (refused : Asked → List Got → List (List ℕ) → Status → Type 0) (a : Asked)
     (plain : (files : List Got) (names : List (List ℕ)) (status : Status)
     → refused a files names status → IsPlain status) where
-  not_written : (status : Status) → HasRefused refused a status → status ≡ s.WriteFault → ⊥
-  not_written status k w = either k.cause
+  not_written : (d : Refusal) → HasRefusal refused a d → d.status ≡ s.WriteFault → ⊥
+  not_written d k w = either k.cause
     where
-      either : (status ≡ s.Memory)
-          ⊎ ((names : List (List ℕ)) × refused a k.files names status) → ⊥
+      either : (d.status ≡ s.Memory)
+          ⊎ ((names : List (List ℕ)) × refused a k.files names d.status × Says names d) → ⊥
       either (inl m) = cc
-      either (inr (names, h)) = (plain k.files names status h).0 w
+      either (inr (names, h, says)) = (plain k.files names d.status h).0 w
 
-  pub write_fault-result : (X : Type 0) (found : Result I Status)
-      → IfErr found (HasRefused refused a) → (found ≡ Err s.WriteFault) ⊎ X → X
+  pub write_fault-result : (X : Type 0) (found : Result I Refusal)
+      → IfErr found (HasRefusal refused a) → RefusesWith found s.WriteFault ⊎ X → X
   write_fault-result X found k (inr x) = x
-  write_fault-result X (Ok i) k (inl h) = cc
-  write_fault-result X (Err status) k (inl h) = absurd (not_written status k (cc))
+  write_fault-result X (Ok i) k (inl h) = absurd h
+  write_fault-result X (Err d) k (inl h) = absurd (not_written d k h)
 
 -- how much is taken
-pub given-bound : (command : Option Command) (limit : ℕ) (a : Asked) (f : Fed) (status : Status)
-    (o n : Option (List ℕ)) → IsSessionOf command limit a f status o n
+pub given-bound : (os : Presented → ℕ → List Proposal) (command : Option Command) (limit : ℕ)
+    (a : Asked) (f : Fed) (status : Status) (o n : Option (List ℕ))
+    → IsSessionOf os command limit a f status o n
     → f.given' ≤ f.given + (limit + 4096)
-given-bound None limit a f status o n h = omega (arith, h.took.given.1, h.took.bound)
-given-bound (Some command) limit a f status o n h = of_command command h
+given-bound os None limit a f status o n h = omega (arith, h.took.given.1, h.took.bound)
+given-bound os (Some command) limit a f status o n h = of_command command h
   where
-    of_command : (d : Command) → IsSessionOf (Some d) limit a f status o n
+    of_command : (d : Command) → IsSessionOf os (Some d) limit a f status o n
         → f.given' ≤ f.given + (limit + 4096)
     of_command (run pres) k = omega (arith, k.took.given.1, k.took.bound)
     of_command (run_table pres table) k = omega (arith, k.took.given.1, k.took.bound)
 
 -- the words are those of the command
-pub IsSession-of : (limit : ℕ) (a : Asked) (f : Fed) (status : Status) (o n : Option (List ℕ))
-    (command : Option Command) → command ≡ command_of a.words
-    → IsSessionOf command limit a f status o n → IsSession limit a f status o n
-IsSession-of limit a f status o n command e h =
-    let S : Option Command → Type 0 = λ d. IsSessionOf d limit a f status o n in
+pub IsSession-of : (os : Presented → ℕ → List Proposal) (limit : ℕ) (a : Asked) (f : Fed)
+    (status : Status) (o n : Option (List ℕ)) (command : Option Command)
+    → command ≡ command_of a.words → IsSessionOf os command limit a f status o n
+    → IsSession os limit a f status o n
+IsSession-of os limit a f status o n command e h =
+    let S : Option Command → Type 0 = λ d. IsSessionOf os d limit a f status o n in
     subst S e h

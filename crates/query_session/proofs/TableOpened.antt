@@ -30,7 +30,7 @@ use Rattle.query_session.specs.Statuses.{file_status, table_status}
 use Rattle.query_session.specs.Opening.{HasOpened, HasRefused}
 use Rattle.query_session.specs.Presentations.{presentation, HasPresentation, IsFileRefused}
 use Rattle.query_session.specs.RunTable.{table_file, IsAccepted, IsTableRefused, form, identity, wide, IsRefused, in_file, unread, in_table, IsOpened, IsSmoothRunTable}
-use Rattle.query_session.proofs.Plain.{IsPlain, file_plain, unread_plain}
+use Rattle.query_session.proofs.Plain.{IsPlain, IsUnnamed, file_plain, unread_plain, file_unnamed, unread_unnamed}
 use Rattle.query_session.proofs.Files.{HasRefused-weaker}
 use Rattle.query_session.proofs.Completing.{known_not_unread, got_is_known, file_not_refused, same_presentation}
 
@@ -49,6 +49,22 @@ run_table_plain pres table a files names status (unread file p e is u) =
     unread_plain a table table_limit e u
 run_table_plain pres table a files names status (in_table file text p t is h) =
     table_plain p text t h
+
+-- their texts name no generator
+table_unnamed : (p : Presented) (text : List ℕ) (status : Status) → IsTableRefused p text status
+    → IsUnnamed status
+table_unnamed p text status (form f m h) = λ names. refl
+table_unnamed p text status (identity t f says v e) = λ names. refl
+table_unnamed p text status (wide t id says v) = λ names. refl
+
+pub run_table_unnamed : (pres table : List ℕ) (a : Asked) (files : List Got)
+    (names : List (List ℕ)) (status : Status) → IsRefused pres table a files names status
+    → IsUnnamed status
+run_table_unnamed pres table a files names status (in_file fs ns t h) =
+    file_unnamed pres a fs ns t h
+run_table_unnamed pres table a files names status (unread file p e is u) = unread_unnamed e
+run_table_unnamed pres table a files names status (in_table file text p t is h) =
+    table_unnamed p text t h
 
 -- the first fault of a table's text
 pub IsTableRefused-fault : (p : Presented) (text : List ℕ) (n : ℕ) (f : TableFault)
@@ -153,13 +169,13 @@ module _ (pres table : List ℕ) (a : Asked) where
       HasRefused-table (Err status) k = HasRefused-either status k
 
 -- a known table that is accepted is not refused
-All-at : (P : Event → Type 0) (before : List Event) (e : Event) (after : List Event)
+pub All-at : {X : Type 0} (P : X → Type 0) (before : List X) (e : X) (after : List X)
     → All P (before ++ e ∷ after) → P e
 All-at P [] e after h = All-head P e after h
 All-at P (d ∷ before) e after h =
     All-at P before e after (All-tail P d (before ++ e ∷ after) h)
 
-none_stops : (p : Presented) (t u : Tabled) (e : Event) → t ≡ u → HaveEqualSides (relations_of p) t
+pub none_stops : (p : Presented) (t u : Tabled) (e : Event) → t ≡ u → HaveEqualSides (relations_of p) t
     → IsFirst (Stops (relations_of p) u) (events u.level (last_of u)) e → ⊥
 none_stops p t u e same holds first =
     let equal : HaveEqualSides (relations_of p) u =

@@ -17,12 +17,13 @@ module _ (W : Status → List ℕ → Type 0) (P : List ℕ → Type 0) (f : Fed
   Wrote-whole s.Done out n m h w = (out, h, w)
   Wrote-whole (s.Usage kind) out n m h w = (out, h, w)
   Wrote-whole (s.BadFile line kind) out n m h w = (out, h, w)
+  Wrote-whole (s.Inconsistent o) out n m h w = (out, h, w)
+  Wrote-whole (s.Wide at) out n m h w = (out, h, w)
   Wrote-whole s.ReadFault out n m h w = (out, h, w)
   Wrote-whole s.WriteFault out n m h w = absurd (n refl)
   Wrote-whole s.Memory out n m h w = absurd (m refl)
   Wrote-whole (s.TableRefused refusal) out n m h w = (out, h, w)
   Wrote-whole s.LongInput out n m h w = (out, h, w)
-  Wrote-whole (s.NotCentral j i) out n m h w = (out, h, w)
 
   Wrote-stopped : (text : List ℕ) (stop : Stop) → P text → IsStopped text old new stop
       → Wrote W P f (stop_status stop) old new

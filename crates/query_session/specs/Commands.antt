@@ -4,11 +4,13 @@
 --   command_of words         the command that the words ask for; none where they fit no form
 --   seen command             what contracts see of the program's own type
 --   IsUsage f s out          the words are refused, and the source is untouched
---   IsSessionOf command limit a f ..   the session of a command, or of none
---   IsSession limit a f ..   the session of the words, with a limit of query bytes
--- a what is asked for · f what is fed · s status
+--   IsSessionOf os command limit a f ..   the session of a command, or of none
+--   IsSession os limit a f ..   the session of the words, with a limit of query bytes
+-- os the proposals for each presentation and level · a what is asked for · f what is fed · s status
 use Rattle.std.specs.Prelude.{◌≡◌, ℕ, List, [], ◌∷◌, Option, Some, None, if◌then◌else◌, codes}
 use Rattle.std.specs.Str.{bytes_eq}
+use Rattle.nil_pres.specs.Presented.{Presented}
+use Rattle.hall_compile.specs.Proposals.{Proposal}
 use Rattle.session_io.specs.Asked.{Asked, Fed, IsUntouched}
 use Rattle.session_io.specs.Lines.{as_lines}
 use Rattle.query_session.specs.declared.command.Command.{Command as Named}
@@ -44,13 +46,14 @@ pub record IsUsage (f : Fed) (status : Status) (out : List ℕ) : Type 0 where
   pub text : out ≡ as_lines (text_of [] (s.Usage reason.Words))
   pub untouched : IsUntouched f
 
-abbrev pub IsSessionOf : Option Command → ℕ → Asked → Fed → Status → Option (List ℕ)
-    → Option (List ℕ) → Type 0
-IsSessionOf None limit a f =
+abbrev pub IsSessionOf : (Presented → ℕ → List Proposal) → Option Command → ℕ → Asked → Fed → Status
+    → Option (List ℕ) → Option (List ℕ) → Type 0
+IsSessionOf os None limit a f =
     IsRun (λ files taken more. IsUsage f)
     (λ files taken more. IsUsage f (s.Usage reason.Words)) limit a f
-IsSessionOf (Some (run pres)) limit a f = IsRunOf pres limit a f
-IsSessionOf (Some (run_table pres table)) limit a f = IsRunTableOf pres table limit a f
+IsSessionOf os (Some (run pres)) limit a f = IsRunOf os pres limit a f
+IsSessionOf os (Some (run_table pres table)) limit a f = IsRunTableOf pres table limit a f
 
-abbrev pub IsSession : ℕ → Asked → Fed → Status → Option (List ℕ) → Option (List ℕ) → Type 0
-IsSession limit a f = IsSessionOf (command_of a.words) limit a f
+abbrev pub IsSession : (Presented → ℕ → List Proposal) → ℕ → Asked → Fed → Status
+    → Option (List ℕ) → Option (List ℕ) → Type 0
+IsSession os limit a f = IsSessionOf os (command_of a.words) limit a f

@@ -1,8 +1,9 @@
 -- The numbers and the texts of statuses, and where they come from.
 --   number_of status         the number that the program ends with
 --   refusal_text r           the text of a refused table
---   text_of names status     the lines that a status writes over a presentation with these names;
---                            none where it is Done, WriteFault or Memory
+--   plain_text status        the lines that a status writes whose text names no generator; none
+--                            where it is Done, WriteFault or Memory
+--   text_of names status     the lines that a status writes over a presentation with these names
 --   end_status e             the status of an end of the source
 --   stop_status s            the status of a stop
 --   outcome_status r         the status of either
@@ -27,6 +28,7 @@ use Rattle.session_io.specs.declared.stop.Stop.{Stop}
 use Rattle.session_io.specs.declared.stop.Stop.TheVariants as stop
 use Rattle.session_io.specs.Answers.{end_text}
 use Rattle.session_io.specs.Stops.{IsStopped}
+use Rattle.compile_text.specs.Lines.{inconsistent_lines, wide_lines}
 use Rattle.query_session.specs.declared.status.Status.{Status}
 use Rattle.query_session.specs.declared.status.Status.TheVariants as s
 use Rattle.query_session.specs.declared.table_refusal.TableRefusal.{TableRefusal}
@@ -36,28 +38,35 @@ abbrev pub number_of : Status → ℕ
 number_of s.Done = 0
 number_of (s.Usage kind) = 2
 number_of (s.BadFile line kind) = 3
+number_of (s.Inconsistent o) = 4
+number_of (s.Wide at) = 5
 number_of s.ReadFault = 6
 number_of s.WriteFault = 7
 number_of s.Memory = 8
 number_of (s.TableRefused refusal) = 9
 number_of s.LongInput = 10
-number_of (s.NotCentral j i) = 12
 
 abbrev pub refusal_text : TableRefusal → List ℕ
 refusal_text (r.Form fault) = table_texts.fault_text fault
 refusal_text (r.Identity failure) = codes "table refused " ++ failure_text failure
 refusal_text (r.Wide id) = codes "table wide " ++ identity_text id
 
+abbrev pub plain_text : Status → List (List ℕ)
+plain_text s.Done = []
+plain_text (s.Usage kind) = codes "usage" ∷ []
+plain_text (s.BadFile line kind) = file_fault_text line kind ∷ []
+plain_text (s.Inconsistent o) = []
+plain_text (s.Wide at) = []
+plain_text s.ReadFault = end_text end.Failed
+plain_text s.WriteFault = []
+plain_text s.Memory = []
+plain_text (s.TableRefused refusal) = refusal_text refusal ∷ []
+plain_text s.LongInput = end_text end.Long
+
 abbrev pub text_of : List (List ℕ) → Status → List (List ℕ)
-text_of names s.Done = []
-text_of names (s.Usage kind) = codes "usage" ∷ []
-text_of names (s.BadFile line kind) = file_fault_text line kind ∷ []
-text_of names s.ReadFault = end_text end.Failed
-text_of names s.WriteFault = []
-text_of names s.Memory = []
-text_of names (s.TableRefused refusal) = refusal_text refusal ∷ []
-text_of names s.LongInput = end_text end.Long
-text_of names (s.NotCentral j i) = codes "not central" ∷ []
+text_of names (s.Inconsistent o) = inconsistent_lines names o
+text_of names (s.Wide at) = wide_lines names at
+text_of names status = plain_text status
 
 abbrev pub end_status : End → Status
 end_status end.Finished = s.Done

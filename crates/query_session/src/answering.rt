@@ -1,23 +1,24 @@
 //! Sessions that answer lines.
 
-ghost use Rattle.std.specs.Prelude.{◌≡◌, ◌⊎◌, IfOk, IfErr, IsErrOf};
+ghost use Rattle.std.specs.Prelude.{◌≡◌, ◌⊎◌, IfOk, IfErr};
 ghost use Rattle.nil_io.specs.Causes.{Rose};
 ghost use Rattle.session_io.specs.Asked.{fed};
 ghost use Rattle.session_io.specs.Answers.{by_reply};
 ghost use Rattle.query_session.specs.Limits.{query_limit};
-ghost use Rattle.query_session.specs.Ends.{IsAnsweredAs, IsRefusedAs};
+ghost use Rattle.query_session.specs.Ends.{IsAnsweredAs, IsRefusedAs, RefusesWith};
 
 use super::limits::QUERY_LIMIT;
+use super::refusal::Refusal;
 use super::refusing::{refuse, status_of};
 use super::status::Status;
 use nil_io::{Sink, Source};
 use session_io::{Replier, answer_source};
 use std::alloc::Global;
 
-/// Answers the lines of a source by what was opened, or writes the status that refuses it.
+/// Answers the lines of a source by what was opened, or writes what refuses it.
 pub(crate) fn answer_by<T: Replier + Drop, S: Source, K: Sink>(
     alloc: Global,
-    opened: Result<T, Status>,
+    opened: Result<T, Refusal>,
     queries: &mut S,
     out: &mut K,
 ) -> Status
@@ -30,12 +31,12 @@ pub(crate) fn answer_by<T: Replier + Drop, S: Source, K: Sink>(
         (S.given queries.old) (S.given queries.new))
         result (K.written out.old) (K.written out.new)) }
     ensures cause { result ≡ Status.WriteFault
-        → IsErrOf opened Status.WriteFault ⊎ Rose (K.faults out.old) (K.faults out.new) }
+        → RefusesWith opened Status.WriteFault ⊎ Rose (K.faults out.old) (K.faults out.new) }
 {
     match opened {
         Ok(mut replier) => {
             status_of(answer_source(alloc, &mut replier, queries, QUERY_LIMIT, out))
         }
-        Err(status) => refuse(alloc, out, status),
+        Err(refusal) => refuse(alloc, out, refusal),
     }
 }

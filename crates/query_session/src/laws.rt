@@ -1,6 +1,6 @@
 //! What is known of sessions.
 
-ghost use Rattle.std.specs.Prelude.{◌≡◌, ◌⊎◌, ◌↔◌, ℕ, List, None};
+ghost use Rattle.std.specs.Prelude.{◌≡◌, ◌⊎◌, ◌↔◌, ℕ, List};
 ghost use Rattle.std.specs.declared.option.Option.{Option};
 ghost use Rattle.nil_word.specs.declared.expr.Expr.{Expr};
 ghost use Rattle.nil_word.specs.declared.query.Query.TheVariants as query;
@@ -10,7 +10,7 @@ ghost use Rattle.nil_pres.specs.Presented.{Presented, IsPresented};
 ghost use Rattle.nil_pres.specs.Relations.{relations_of};
 ghost use Rattle.hall_table.specs.Tabled.{IsTabled};
 ghost use Rattle.hall_table.specs.Multiplies.{Paired, IsChecked};
-ghost use Rattle.central_table.specs.Central.{central_table, not_central};
+ghost use Rattle.hall_compile.specs.Proposals.{Proposal};
 ghost use Rattle.group_eval.specs.Queries.{IsWide};
 ghost use Rattle.session_io.specs.Asked.{Asked, Fed};
 ghost use Rattle.query_session.specs.declared.status.Status.{Status};
@@ -20,7 +20,6 @@ ghost use Rattle.query_session.specs.Right.{IsQuery, IsReply};
 ghost use Rattle.query_session.specs.Commands.{IsSession};
 ghost use Rattle.query_session.specs.Smooth.{IsSmooth};
 
-use central_table::laws::central_tables;
 use hall_law::laws::uniqueness;
 use hall_table::presentations::relations;
 use nil_word::laws::congruence;
@@ -28,29 +27,22 @@ use pres_text::laws::files;
 use table_json::laws::texts;
 use word_text::laws::readings;
 
-/// A presentation with a table of level 1 that multiplies in it is consistent. A central one has
-/// such a table.
+/// A presentation with a table of level 1 that multiplies in it is consistent.
 pub fn consistent()
-    ensures checked { (c : Paired) → IsPresented c.pres → IsChecked c → c.table.level ≡ 1
+    ensures { (c : Paired) → IsPresented c.pres → IsChecked c → c.table.level ≡ 1
         → IsConsistent (relations_of c.pres) 1 }
-    ensures central { (p : Presented) → IsPresented p → not_central p ≡ None
-        → IsConsistent (relations_of p) 1 }
 {
     relations();
-    central_tables();
     uniqueness();
 }
 
 /// By a table of level 1 that multiplies in its presentation the reply that is computed is the
-/// right one. A central presentation has such a table.
+/// right one.
 pub fn right_replies()
-    ensures checked { (c : Paired) (line : List ℕ) → IsPresented c.pres → IsTabled c.table
+    ensures { (c : Paired) (line : List ℕ) → IsPresented c.pres → IsTabled c.table
         → IsChecked c → c.table.level ≡ 1 → IsReply c line (reply c line) }
-    ensures central { (c : Paired) (line : List ℕ) → IsPresented c.pres → not_central c.pres ≡ None
-        → c.table ≡ central_table c.pres → IsReply c line (reply c line) }
 {
     readings();
-    central_tables();
     group_eval::laws::replies();
 }
 
@@ -68,11 +60,12 @@ pub fn equal_replies()
     congruence();
 }
 
-/// A session that meets no fault answers all known queries over known files that nothing refuses,
-/// all of them within their limits, or memory is wanting.
+/// A session that meets no fault answers all known queries over known files that nothing refuses, all
+/// of them within their limits, or memory is wanting.
 pub fn complete_runs()
-    ensures { (limit : ℕ) (a : Asked) (f : Fed) (p : Presented) (status : Status)
-        (old new : Option (List ℕ)) → IsSession limit a f status old new → IsSmooth limit a f p
+    ensures { (os : Presented → ℕ → List Proposal) (limit : ℕ) (a : Asked) (f : Fed) (p : Presented)
+        (status : Status) (old new : Option (List ℕ)) → IsSession os limit a f status old new
+        → IsSmooth os limit a f p
         → (status ≡ s.WriteFault → ⊥) → (status ≡ s.Done) ⊎ (status ≡ s.Memory) }
 {
     files();

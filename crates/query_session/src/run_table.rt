@@ -7,7 +7,7 @@ ghost use Rattle.hall_table.specs.Multiplies.{Paired};
 ghost use Rattle.nil_io.specs.Causes.{Rose};
 ghost use Rattle.session_io.specs.Asked.{asked, fed};
 ghost use Rattle.query_session.specs.Limits.{query_limit};
-ghost use Rattle.query_session.specs.Opening.{HasOpened, HasRefused};
+ghost use Rattle.query_session.specs.Opening.{HasOpened, HasRefused, HasRefusal};
 ghost use Rattle.query_session.specs.RunTable.{IsAccepted, IsOpened, IsRefused, IsRunTableOf, IsTableRefused};
 
 use super::answering::answer_by;
@@ -15,6 +15,7 @@ use super::calculator::Calculator;
 use super::laws::{consistent, right_replies};
 use super::limits::TABLE_LIMIT;
 use super::presentations::read_presentation;
+use super::refusal::Refusal;
 use super::status::Status;
 use super::table_refusal::TableRefusal;
 use identity_check::{Verdict, check};
@@ -45,8 +46,26 @@ pub(crate) fn run_table<H: Shelf, S: Source, K: Sink>(
     answer_by(alloc, opened, queries, out)
 }
 
-/// The calculator of a presentation and a table, or the status that refuses them.
+/// The calculator of a presentation and a table, or what refuses them.
 fn open<H: Shelf>(
+    alloc: Global,
+    pres: &str,
+    table: &str,
+    shelf: &mut H,
+) -> Result<Calculator, Refusal>
+    ensures opened { (words : List (List ℕ)) → IfOk result
+        (HasOpened Paired (IsOpened pres.now table.now) (asked words (H.contents shelf.old)
+        (H.faults shelf.old) (H.faults shelf.new) (H.longs shelf.old) (H.longs shelf.new))) }
+    ensures refused { (words : List (List ℕ)) → IfErr result
+        (HasRefusal (IsRefused pres.now table.now) (asked words (H.contents shelf.old)
+        (H.faults shelf.old) (H.faults shelf.new) (H.longs shelf.old) (H.longs shelf.new))) }
+{
+    let calculator = calculator_of(alloc, pres, table, shelf)?;
+    Ok(calculator)
+}
+
+/// The calculator of a presentation and a table, or the status that refuses them.
+fn calculator_of<H: Shelf>(
     alloc: Global,
     pres: &str,
     table: &str,

@@ -1,12 +1,13 @@
 //! The texts of statuses.
 
-ghost use Rattle.std.specs.Prelude.{◌≡◌, ℕ, ◌≤◌, [], ◌∷◌, string_bytes, IfOk, IfErr, OnOk, IsErrOf};
+ghost use Rattle.std.specs.Prelude.{◌≡◌, ◌≤◌, [], ◌∷◌, string_bytes, IfOk, IfErr, OnOk, IsErrOf};
 ghost use Rattle.std.specs.Io.KnownBytes.{Appends};
 ghost use Rattle.pres_text.specs.FaultTexts.{file_fault_text};
 ghost use Rattle.nil_io.specs.Causes.{Rose};
 ghost use Rattle.session_io.specs.Lines.{as_lines};
 ghost use Rattle.session_io.specs.Stops.{IsStopped};
-ghost use Rattle.query_session.specs.Statuses.{refusal_text, text_of};
+ghost use Rattle.query_session.specs.Refusals.{text_or};
+ghost use Rattle.query_session.specs.Statuses.{refusal_text, plain_text};
 
 use super::status::Status;
 use super::table_refusal::TableRefusal;
@@ -15,22 +16,37 @@ use pres_text::{FileKind, fault_text};
 use session_io::{Stop, put_all};
 use std::alloc::{AllocError, Global};
 
-/// Writes the text of a status as a line.
-pub(crate) fn say<K: Sink>(alloc: Global, out: &mut K, status: &Status) -> Result<(), Stop>
+/// Writes the text of a status, or its own where it names no generator.
+pub(crate) fn say<K: Sink>(
+    alloc: Global,
+    out: &mut K,
+    status: &Status,
+    text: Option<String>,
+) -> Result<(), Stop>
     ensures ok { OnOk result (Appends (K.written out.old) (K.written out.new)
-        (as_lines (text_of [] status.now))) }
-    ensures err { IfErr result (IsStopped (as_lines (text_of [] status.now))
+        (text_or (as_lines (plain_text status.now)) text)) }
+    ensures err { IfErr result (IsStopped (text_or (as_lines (plain_text status.now)) text)
         (K.written out.old) (K.written out.new)) }
     ensures later { K.faults out.old ≤ K.faults out.new }
     ensures cause { IsErrOf result Stop.Failed → Rose (K.faults out.old) (K.faults out.new) }
 {
-    let line = status_line(alloc, status)?;
-    put_all(out, line.as_bytes())
+    let lines = lines_of(alloc, status, text)?;
+    put_all(out, lines.as_bytes())
 }
 
-/// The text of a status with a line feed, or none.
+fn lines_of(alloc: Global, status: &Status, text: Option<String>) -> Result<String, AllocError>
+    ensures { IfOk result (λ lines. string_bytes lines
+        ≡ text_or (as_lines (plain_text status.now)) text) }
+{
+    match text {
+        Some(text) => Ok(text),
+        None => status_line(alloc, status),
+    }
+}
+
+/// The text of a status that names no generator, with a line feed, or none.
 fn status_line(alloc: Global, status: &Status) -> Result<String, AllocError>
-    ensures { IfOk result (λ line. string_bytes line ≡ as_lines (text_of [] status.now)) }
+    ensures { IfOk result (λ line. string_bytes line ≡ as_lines (plain_text status.now)) }
 {
     match status {
         Status::BadFile { line, kind } => bad_file_line(alloc, *line, *kind),
@@ -38,8 +54,11 @@ fn status_line(alloc: Global, status: &Status) -> Result<String, AllocError>
         Status::ReadFault => String::from_str(alloc, "read fault\n"),
         Status::TableRefused(refusal) => table_refused_line(alloc, refusal),
         Status::LongInput => String::from_str(alloc, "long input\n"),
-        Status::NotCentral { .. } => String::from_str(alloc, "not central\n"),
-        Status::Done | Status::WriteFault | Status::Memory => Ok(String::new(alloc)),
+        Status::Done
+        | Status::Inconsistent(_)
+        | Status::Wide(_)
+        | Status::WriteFault
+        | Status::Memory => Ok(String::new(alloc)),
     }
 }
 

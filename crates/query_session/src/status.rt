@@ -5,13 +5,15 @@ ghost use Rattle.query_session.specs.Statuses.{number_of};
 
 use super::table_refusal::TableRefusal;
 use super::usage_kind::UsageKind;
+use hall_compile::WidePlace;
 use nil_io::ShelfFault;
+use overlap_test::Overlap;
 use pres_text::{FileKind, PresFault};
 use std::alloc::AllocError;
 use table_json::TableFault;
 
 /// How a session ends.
-#[derive(Debug, PartialEq, Eq, Drop)]
+#[derive(Drop)]
 pub enum Status {
     /// All was answered and written.
     Done,
@@ -19,6 +21,10 @@ pub enum Status {
     Usage(UsageKind),
     /// The presentation file's first fault, with its line from 1.
     BadFile { line: u64, kind: FileKind },
+    /// The first overlap of the presentation whose two ways differ.
+    Inconsistent(Overlap),
+    /// Where a value overflows 128 bits on the way to a table.
+    Wide(WidePlace),
     /// A file or the query lines could not be read.
     ReadFault,
     /// The output could not be written.
@@ -29,8 +35,6 @@ pub enum Status {
     TableRefused(TableRefusal),
     /// A file or the query lines are too long.
     LongInput,
-    /// The first pair whose right side has a generator that isn't central.
-    NotCentral { j: u32, i: u32 },
 }
 
 impl Status {
@@ -42,12 +46,13 @@ impl Status {
             Status::Done => 0,
             Status::Usage(_) => 2,
             Status::BadFile { .. } => 3,
+            Status::Inconsistent(_) => 4,
+            Status::Wide(_) => 5,
             Status::ReadFault => 6,
             Status::WriteFault => 7,
             Status::Memory => 8,
             Status::TableRefused(_) => 9,
             Status::LongInput => 10,
-            Status::NotCentral { .. } => 12,
         }
     }
 }

@@ -54,7 +54,7 @@ pub(crate) fn run_over(
     fail: &[u64],
 ) -> Result<Ended, AllocError> {
     let mut sink = MemorySink::new(Vec::with_capacity(alloc, 4096)?, fail.to_vec(alloc)?);
-    let status = session(alloc, words, shelf, source, &mut sink);
+    let status = session(alloc, words, shelf, source, &mut sink, Vec::new(alloc));
     let bytes = sink.bytes().to_vec(alloc)?;
     Ok(Ended { status, bytes })
 }

@@ -33,7 +33,7 @@ fn a_line_above_the_limit_is_long(rt: HostRuntime) -> Result<(), Fail> {
     line.push(b' ')?;
     let above = answered(rt.alloc(), HEISENBERG.as_bytes(), &line)?;
     assert_eq!(rt; above.bytes.as_slice(), b"long\n".as_slice());
-    assert_eq!(rt; above.status, Status::Done);
+    assert_eq!(rt; above.status.number(), 0);
     Ok(())
 }
 
@@ -41,5 +41,4 @@ fn a_line_above_the_limit_is_long(rt: HostRuntime) -> Result<(), Fail> {
 fn each_status_has_its_number(rt: HostRuntime) {
     assert_eq!(rt; Status::Done.number(), 0);
     assert_eq!(rt; Status::LongInput.number(), 10);
-    assert_eq!(rt; Status::NotCentral { j: 3, i: 2 }.number(), 12);
 }

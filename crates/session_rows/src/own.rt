@@ -5,7 +5,7 @@ ghost use Rattle.std.specs.declared.option.Option.{Option};
 
 use super::fixtures::{HEISENBERG, shelf_of, source_of, words_of};
 use nil_io::{Failed, MemorySink, Shelf, ShelfFault, Source, SureShelf, SureSink, SureSource};
-use query_session::{Status, session};
+use query_session::session;
 use std::alloc::{AllocError, Global};
 use std::test::Fail;
 
@@ -35,8 +35,15 @@ fn a_shelf_without_memory_ends_the_session(rt: HostRuntime) -> Result<(), Fail> 
     let mut source = source_of(rt.alloc(), b"a1", &[])?;
     let room = Vec::with_capacity(rt.alloc(), 64)?;
     let mut sink = MemorySink::new(room, Vec::new(rt.alloc()));
-    let status = session(rt.alloc(), &words, &mut shelf, &mut source, &mut sink);
-    assert_eq!(rt; status, Status::Memory);
+    let status = session(
+        rt.alloc(),
+        &words,
+        &mut shelf,
+        &mut source,
+        &mut sink,
+        Vec::new(rt.alloc()),
+    );
+    assert_eq!(rt; status.number(), 8);
     assert!(rt; sink.bytes().is_empty());
     Ok(())
 }
@@ -94,7 +101,14 @@ fn over<S: Source>(alloc: Global, source: &mut S) -> Result<(u8, Vec<u8>), Alloc
     let mut shelf = shelf_of(alloc, HEISENBERG.as_bytes(), &[])?;
     let room = Vec::with_capacity(alloc, 64)?;
     let mut sink = MemorySink::new(room, Vec::new(alloc));
-    let status = session(alloc, &words, &mut shelf, source, &mut sink);
+    let status = session(
+        alloc,
+        &words,
+        &mut shelf,
+        source,
+        &mut sink,
+        Vec::new(alloc),
+    );
     Ok((status.number(), sink.bytes().to_vec(alloc)?))
 }
 
@@ -133,7 +147,14 @@ fn a_session_over_infallible_implementations_is_done(rt: HostRuntime) -> Result<
     let mut shelf = SureShelf::new(files);
     let mut source = SureSource::new(b"a1\na2*(a1".to_vec(alloc)?, 3);
     let mut sink = SureSink::new();
-    let status = session(alloc, &words, &mut shelf, &mut source, &mut sink);
-    assert_eq!(rt; status, Status::Done);
+    let status = session(
+        alloc,
+        &words,
+        &mut shelf,
+        &mut source,
+        &mut sink,
+        Vec::new(alloc),
+    );
+    assert_eq!(rt; status.number(), 0);
     Ok(())
 }

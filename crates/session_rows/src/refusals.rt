@@ -1,19 +1,8 @@
 //! Statuses other than `Done`.
 
-use super::fixtures::{Ended, HEISENBERG, answered, run_over, shelf_of, source_of, words_of};
-use query_session::{Status, UsageKind};
+use super::fixtures::{Ended, HEISENBERG, run_over, shelf_of, source_of, words_of};
 use std::alloc::{AllocError, Global};
 use std::test::Fail;
-
-const OUTSIDE: &str = "nilpotent 1\ngenerators a1 a2 a3 a4 a5\n[a3,a2] = a4\n[a4,a1] = a5\n";
-
-#[test]
-fn a_right_side_outside_the_centre_is_named(rt: HostRuntime) -> Result<(), Fail> {
-    let ended = answered(rt.alloc(), OUTSIDE.as_bytes(), b"a1")?;
-    assert_eq!(rt; ended.bytes.as_slice(), b"not central\n".as_slice());
-    assert_eq!(rt; ended.status, Status::NotCentral { j: 3, i: 2 });
-    Ok(())
-}
 
 /// The two queries over a shelf, a source and a sink whose calls with these numbers fail.
 fn with_faults(
@@ -33,7 +22,7 @@ fn with_faults(
 fn a_fault_of_the_sink_leaves_what_was_written(rt: HostRuntime) -> Result<(), Fail> {
     let ended = with_faults(rt.alloc(), &["run", "f"], &[], &[], &[2])?;
     assert_eq!(rt; ended.bytes.as_slice(), b"5 3 15\n".as_slice());
-    assert_eq!(rt; ended.status, Status::WriteFault);
+    assert_eq!(rt; ended.status.number(), 7);
     Ok(())
 }
 
@@ -41,10 +30,10 @@ fn a_fault_of_the_sink_leaves_what_was_written(rt: HostRuntime) -> Result<(), Fa
 fn a_fault_of_the_source_ends_whole_lines(rt: HostRuntime) -> Result<(), Fail> {
     let first = with_faults(rt.alloc(), &["run", "f"], &[], &[1], &[])?;
     assert_eq!(rt; first.bytes.as_slice(), b"read fault\n".as_slice());
-    assert_eq!(rt; first.status, Status::ReadFault);
+    assert_eq!(rt; first.status.number(), 6);
     let second = with_faults(rt.alloc(), &["run", "f"], &[], &[2], &[])?;
     assert_eq!(rt; second.bytes.as_slice(), b"5 3 15\nread fault\n".as_slice());
-    assert_eq!(rt; second.status, Status::ReadFault);
+    assert_eq!(rt; second.status.number(), 6);
     Ok(())
 }
 
@@ -52,10 +41,10 @@ fn a_fault_of_the_source_ends_whole_lines(rt: HostRuntime) -> Result<(), Fail> {
 fn a_fault_of_the_shelf_or_a_missing_file_is_a_read_fault(rt: HostRuntime) -> Result<(), Fail> {
     let fault = with_faults(rt.alloc(), &["run", "f"], &[1], &[], &[])?;
     assert_eq!(rt; fault.bytes.as_slice(), b"read fault\n".as_slice());
-    assert_eq!(rt; fault.status, Status::ReadFault);
+    assert_eq!(rt; fault.status.number(), 6);
     let missing = with_faults(rt.alloc(), &["run", "g"], &[], &[], &[])?;
     assert_eq!(rt; missing.bytes.as_slice(), b"read fault\n".as_slice());
-    assert_eq!(rt; missing.status, Status::ReadFault);
+    assert_eq!(rt; missing.status.number(), 6);
     Ok(())
 }
 
@@ -63,6 +52,6 @@ fn a_fault_of_the_shelf_or_a_missing_file_is_a_read_fault(rt: HostRuntime) -> Re
 fn words_that_fit_no_form_are_refused(rt: HostRuntime) -> Result<(), Fail> {
     let ended = with_faults(rt.alloc(), &["run"], &[], &[], &[])?;
     assert_eq!(rt; ended.bytes.as_slice(), b"usage\n".as_slice());
-    assert_eq!(rt; ended.status, Status::Usage(UsageKind::Words));
+    assert_eq!(rt; ended.status.number(), 2);
     Ok(())
 }

@@ -1,7 +1,6 @@
 //! Query lines and their replies.
 
 use super::fixtures::{HEISENBERG, HEISENBERG_TABLE, answered, by_table};
-use query_session::Status;
 use std::alloc::{AllocError, Global};
 use std::test::Fail;
 
@@ -41,7 +40,7 @@ fn lines_get_the_replies_that_were_worked_by_hand(rt: HostRuntime) -> Result<(),
     for (queries, output) in ROWS {
         let ended = answered(rt.alloc(), HEISENBERG.as_bytes(), queries.as_bytes())?;
         assert_eq!(rt; ended.bytes.as_slice(), output.as_bytes(), "{queries}");
-        assert_eq!(rt; ended.status, Status::Done, "{queries}");
+        assert_eq!(rt; ended.status.number(), 0, "{queries}");
         let ended = by_table(rt.alloc(), HEISENBERG, HEISENBERG_TABLE, queries.as_bytes())?;
         assert_eq!(rt; ended.bytes.as_slice(), output.as_bytes(), "{queries}");
     }
@@ -62,7 +61,7 @@ const RENAMED: &str = "# Heisenberg\r\nnilpotent 1\r\ngenerators s t c\r\n\r\n[ 
 fn names_comments_and_carriage_returns_make_no_difference(rt: HostRuntime) -> Result<(), Fail> {
     let ended = answered(rt.alloc(), RENAMED.as_bytes(), b"t^3 * s^5")?;
     assert_eq!(rt; ended.bytes.as_slice(), b"5 3 15\n".as_slice());
-    assert_eq!(rt; ended.status, Status::Done);
+    assert_eq!(rt; ended.status.number(), 0);
     Ok(())
 }
 
@@ -74,7 +73,7 @@ fn magnitudes_of_opposite_signs_are_summed(rt: HostRuntime) -> Result<(), Fail> 
         b"a1^7*a1^-7\na1^85070591730234615865843651857942052864*a1^-85070591730234615865843651857942052864";
     let ended = answered(rt.alloc(), CYCLIC.as_bytes(), queries)?;
     assert_eq!(rt; ended.bytes.as_slice(), b"0\nwide\n".as_slice());
-    assert_eq!(rt; ended.status, Status::Done);
+    assert_eq!(rt; ended.status.number(), 0);
     Ok(())
 }
 
@@ -122,9 +121,9 @@ fn the_examples_hold(rt: HostRuntime) -> Result<(), Fail> {
     let (queries, replies) = examples(rt.alloc())?;
     let ended = answered(rt.alloc(), HEISENBERG.as_bytes(), queries.as_bytes())?;
     assert_eq!(rt; ended.bytes.as_slice(), replies.as_bytes());
-    assert_eq!(rt; ended.status, Status::Done);
+    assert_eq!(rt; ended.status.number(), 0);
     let ended = by_table(rt.alloc(), HEISENBERG, HEISENBERG_TABLE, queries.as_bytes())?;
     assert_eq!(rt; ended.bytes.as_slice(), replies.as_bytes());
-    assert_eq!(rt; ended.status, Status::Done);
+    assert_eq!(rt; ended.status.number(), 0);
     Ok(())
 }

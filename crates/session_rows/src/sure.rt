@@ -1,6 +1,6 @@
 //! Sessions over infallible implementations of the outside.
 
-ghost use Rattle.std.specs.Prelude.{◌≡◌, ◌≤◌, ◌⊎◌, ℕ, List, Some, None, length};
+ghost use Rattle.std.specs.Prelude.{◌≡◌, ◌≤◌, ◌⊎◌, ℕ, List, Some, None, length, map};
 ghost use Rattle.nil_io.specs.Files.{contents_or_empty};
 ghost use Rattle.nil_pres.specs.Presented.{Presented};
 ghost use Rattle.nil_pres.specs.Relations.{relations_of};
@@ -8,17 +8,19 @@ ghost use Rattle.pres_text.specs.File.{IsFile};
 ghost use Rattle.hall_table.specs.Tabled.{Tabled};
 ghost use Rattle.table_json.specs.Saying.{IsTableText};
 ghost use Rattle.identity_check.specs.Events.{HaveEqualSides};
-ghost use Rattle.central_table.specs.Central.{not_central};
+ghost use Rattle.hall_compile.specs.Proposals.{proposal};
 ghost use Rattle.session_io.specs.Asked.{texts};
 ghost use Rattle.query_session.specs.Limits.{file_limit, table_limit, query_limit};
 ghost use Rattle.query_session.specs.Commands.{command_of, run, run_table};
+ghost use Rattle.query_session.specs.Compiling.{Compiles};
 
 use nil_io::{SureShelf, SureSink, SureSource};
+use nil_propose::Proposer;
 use query_session::{Status, Words, session};
 use std::alloc::Global;
 
-/// A session over infallible implementations answers all queries over a central presentation, or
-/// over any presentation by a table that is accepted, with the files and the queries within their
+/// A session over infallible implementations answers all queries over a presentation that compiles,
+/// or over any presentation by a table that is accepted, with the files and the queries within their
 /// limits, or memory is wanting.
 pub fn sure_session(
     alloc: Global,
@@ -26,11 +28,14 @@ pub fn sure_session(
     shelf: &mut SureShelf,
     queries: &mut SureSource,
     out: &mut SureSink,
+    proposers: Vec<Box<dyn Proposer>>,
 ) -> Status
+    requires few { length proposers.items ≤ 64 }
     ensures run { (p : Presented) (name : List ℕ) → command_of (texts words.now.items) ≡ Some (run name)
         → IsFile p (contents_or_empty shelf.old.files name)
         → length (contents_or_empty shelf.old.files name) ≤ file_limit
-        → not_central p ≡ None → length queries.old.left ≤ query_limit
+        → Compiles p (λ i. map (λ b. proposal (named b) (gives b p i)) proposers.items)
+        → length queries.old.left ≤ query_limit
         → (result ≡ Status.Done) ⊎ (result ≡ Status.Memory) }
     ensures run_table { (p : Presented) (t : Tabled) (pres table : List ℕ)
         → command_of (texts words.now.items) ≡ Some (run_table pres table)
@@ -41,5 +46,5 @@ pub fn sure_session(
         → HaveEqualSides (relations_of p) t → length queries.old.left ≤ query_limit
         → (result ≡ Status.Done) ⊎ (result ≡ Status.Memory) }
 {
-    session(alloc, words, shelf, queries, out)
+    session(alloc, words, shelf, queries, out, proposers)
 }

@@ -3,7 +3,6 @@
 use super::fixtures::{
     HEISENBERG, HEISENBERG_TABLE, by_table, run_over, shelf_of, source_of, words_of,
 };
-use query_session::Status;
 use std::alloc::{AllocError, Global};
 use std::test::Fail;
 
@@ -38,7 +37,7 @@ fn a_table_answers_where_it_is_accepted(rt: HostRuntime) -> Result<(), Fail> {
         let table = with_last(rt.alloc(), terms)?;
         let ended = by_table(rt.alloc(), HEISENBERG, table.as_str(), b"a2^3*a1^5")?;
         assert_eq!(rt; ended.bytes.as_slice(), output.as_bytes(), "{terms}");
-        let number = if ended.status == Status::Done { 0 } else { 9 };
+        let number = if output.starts_with("table") { 9 } else { 0 };
         assert_eq!(rt; ended.status.number(), number, "{terms}");
     }
     Ok(())
@@ -88,6 +87,6 @@ fn a_table_that_cannot_be_read_is_a_read_fault(rt: HostRuntime) -> Result<(), Fa
     let mut source = source_of(rt.alloc(), b"a1", &[])?;
     let missing = run_over(rt.alloc(), &words, &mut shelf, &mut source, &[])?;
     assert_eq!(rt; missing.bytes.as_slice(), b"read fault\n".as_slice());
-    assert_eq!(rt; missing.status, Status::ReadFault);
+    assert_eq!(rt; missing.status.number(), 6);
     Ok(())
 }

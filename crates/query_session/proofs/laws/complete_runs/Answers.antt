@@ -2,6 +2,6 @@ use Rattle.query_session.proofs.Completed.{ends-smoothly}
 use Rattle.query_session.proofs.laws.complete_runs.Goals as goal
 
 pub returns : goal.returns
-returns c = λ limit a f p status old new run smooth other.
+returns c = λ os limit a f p status old new run smooth other.
     ends-smoothly c.files.ensures.one c.files.ensures.none c.texts.ensures.one c.texts.ensures.none
-    limit a f p status old new run smooth other
+    os limit a f p status old new run smooth other

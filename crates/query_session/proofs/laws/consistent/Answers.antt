@@ -3,16 +3,10 @@ use Rattle.std.proofs.Common.{ℕ, subst}
 use Rattle.nil_word.specs.Congruence.{IsConsistent}
 use Rattle.hall_table.specs.Values.{values}
 use Rattle.nil_pres.specs.Relations.{relations_of}
-use Rattle.central_table.specs.Central.{central_table}
 use Rattle.query_session.proofs.laws.consistent.Goals as goal
 
-pub returns-clause-checked : goal.returns-clause-checked
-returns-clause-checked c = λ d h checked level.
+pub returns : goal.returns
+returns c = λ d h checked level.
     let P : ℕ → Type 0 = IsConsistent (relations_of d.pres) in
     subst P level (c.uniqueness.ensures.consistent (relations_of d.pres) d.table.level
     (values d.table) (c.relations.ensures.presentation d.pres h) checked.multiplies)
-
-pub returns-clause-central : goal.returns-clause-central
-returns-clause-central c = λ p h none.
-    c.uniqueness.ensures.consistent (relations_of p) 1 (values (central_table p))
-    (c.relations.ensures.presentation p h) (c.central_tables.ensures.multiplies p h none)

@@ -1,23 +1,19 @@
+use Rattle.std.proofs.Common.{[]}
 use Rattle.std.proofs.lemmas.Result.{err_from_is_err_and}
-use Rattle.query_session.proofs.RunOpened.{HasOpened-central, HasRefused-file, HasRefused-outside}
+use Rattle.query_session.proofs.CompileOpened.{HasOpened-run}
 use Rattle.query_session.proofs.run.open.Goals as goal
-
-pub returns-in_err-pres-clause-refused : goal.returns-in_err-pres-clause-refused
-returns-in_err-pres-clause-refused g c =
-    λ words.
-    let p = err_from_is_err_and c.from_residual.result c.from_residual.ensures.1 in
-    rw (p.1, p.2) (HasRefused-file c.args.pres.now _ c.in_err-pres.field-0.0
-    (c.in_err-pres.ensures.refused words))
 
 pub returns-clause-opened : goal.returns-clause-opened
 returns-clause-opened g c =
     λ words.
-    HasOpened-central c.args.pres.now _ c.in_ok-pres.pres (c.in_ok-pres.ensures.read words)
-    c.by_presentation.result c.by_presentation.ensures.central c.by_presentation.ensures.table
-    c.by_presentation.ensures.consistent
+    HasOpened-run _ c.args.pres.now _ c.in_ok-compiled.compiled c.in_ok-calculator.calculator
+    c.in_ok-calculator.ensures (c.in_ok-compiled.ensures.opened words)
 
-pub returns-clause-refused : goal.returns-clause-refused
-returns-clause-refused g c =
+pub returns-in_err-compiled-clause-refused : goal.returns-in_err-compiled-clause-refused
+returns-in_err-compiled-clause-refused g c =
     λ words.
-    HasRefused-outside c.args.pres.now _ c.in_ok-pres.pres (c.in_ok-pres.ensures.read words)
-    c.by_presentation.result c.by_presentation.ensures.refused
+    let p = err_from_is_err_and c.from_residual.result c.from_residual.ensures.1 in
+    rw (p.1, p.2) (c.in_err-compiled.ensures.refused words)
+
+pub of-requires : goal.of-requires
+of-requires g c = record { level = (c.in_ok-compiled.ensures.opened []).is.compiled.outcome.level }

@@ -2,17 +2,18 @@ use Rattle.std.proofs.Common.{[]}
 use Rattle.hall_table.specs.Multiplies.{Paired}
 use Rattle.query_session.specs.Replies.{reply}
 use Rattle.query_session.specs.Right.{IsReply}
-use Rattle.query_session.specs.Run.{IsOpened, IsRefused}
-use Rattle.query_session.proofs.RunOpened.{run_plain}
+use Rattle.query_session.specs.Compiling.{IsRefused}
+use Rattle.query_session.specs.Run.{IsOpened}
+use Rattle.query_session.proofs.CompileOpened.{compile_plain, IsReply-opened}
 use Rattle.query_session.proofs.Sessions.{IsRunOver-result, write_fault-result}
 use Rattle.query_session.proofs.run.run.Goals as goal
 
 pub returns-clause-run : goal.returns-clause-run
 returns-clause-run g c =
     λ words.
-    IsRunOver-result Paired (IsOpened c.args.pres.now) IsReply (IsRefused c.args.pres.now) 16777216
-    _ _ _ _ (run_plain c.args.pres.now _) reply
-    (λ d h line. c.right_replies.ensures.central d line h.is.is_file.lawful h.is.central h.is.table)
+    IsRunOver-result Paired (IsOpened _ c.args.pres.now) IsReply (IsRefused _ c.args.pres.now)
+    16777216 _ _ _ _ (compile_plain _ c.args.pres.now _) reply
+    (λ d h line. IsReply-opened c.right_replies.ensures _ c.args.pres.now _ d h line)
     _ c.open-opened.result (c.open-opened.ensures.opened words)
     (c.open-opened.ensures.refused words)
     c.answer_by.ensures.answered c.answer_by.ensures.refused
@@ -20,5 +21,5 @@ returns-clause-run g c =
 pub returns-clause-cause : goal.returns-clause-cause
 returns-clause-cause g c =
     λ w.
-    write_fault-result Paired (IsRefused c.args.pres.now) _ (run_plain c.args.pres.now _) _
+    write_fault-result Paired (IsRefused _ c.args.pres.now) _ (compile_plain _ c.args.pres.now _) _
     c.open-opened.result (c.open-opened.ensures.refused []) (c.answer_by.ensures.cause w)

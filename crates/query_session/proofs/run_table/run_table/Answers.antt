@@ -13,7 +13,7 @@ returns-clause-run g c =
     IsRunOver-result Paired (IsOpened c.args.pres.now c.args.table.now) IsReply
     (IsRefused c.args.pres.now c.args.table.now) 16777216 _ _ _ _
     (run_table_plain c.args.pres.now c.args.table.now _) reply
-    (λ d h line. c.right_replies.ensures.checked d line h.is.is_file.lawful
+    (λ d h line. c.right_replies.ensures d line h.is.is_file.lawful
     h.is.accepted.says.says.table h.is.accepted.multiplies h.is.accepted.says.says.level)
     _ c.open-opened.result (c.open-opened.ensures.opened words)
     (c.open-opened.ensures.refused words)

@@ -8,7 +8,7 @@ still : Rose 0 0 → ⊥
 still h = omega (arith, h)
 
 pub returns-clause-run : goal.returns-clause-run
-returns-clause-run c = λ p name command is_file within central few.
+returns-clause-run g c = λ p name command is_file within compiles few.
     c.session.ensures.complete p record {
       command = run name;
       asks = command;
@@ -17,13 +17,13 @@ returns-clause-run c = λ p name command is_file within central few.
             file = _;
             known = record { known = refl; within = within; shelf = still };
             is_file = is_file;
-            central = central;
+            compiles = compiles;
           };
       queries = record { queries = _; known = refl; few = few; source = still };
     } still
 
 pub returns-clause-run_table : goal.returns-clause-run_table
-returns-clause-run_table c = λ p t pres table command is_file within says table_within holds few.
+returns-clause-run_table g c = λ p t pres table command is_file within says table_within holds few.
     c.session.ensures.complete p record {
       command = run_table pres table;
       asks = command;
