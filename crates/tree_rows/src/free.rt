@@ -7,6 +7,7 @@ use dt_letters::{Letters, NodeFault, Side};
 use nil_pres::Syllable;
 use std::alloc::Global;
 use std::test::Fail;
+use tree_text::trees_text;
 
 /// `[a2,a1] = a3`, `[a3,a1] = a4` and `[a3,a2] = a5`.
 fn free(alloc: Global) -> Result<Letters, Fail>
@@ -52,6 +53,30 @@ x5 + y5 + x3*y2 + C(x2,2)*y1 + x2*y1*y2
 fn the_polynomials_of_all_types(rt: HostRuntime) -> Result<(), Fail> {
     let mut letters = free(rt.alloc())?;
     assert_eq!(rt; poly_lines(rt.alloc(), &mut letters)?.as_str(), POLYS);
+    Ok(())
+}
+
+const LINES: &str = "x5.1
+y5.1
+(x3.1,y2.1;5.1)
+((x2.1,y1.1;3.1),x2.2;5.1)
+((x2.1,y1.1;3.1),y2.1;5.1)
+f5 = x5 + y5 + x3*y2 + C(x2,2)*y1 + x2*y1*y2
+";
+
+#[test]
+fn the_lines_of_the_last_type(rt: HostRuntime) -> Result<(), Fail> {
+    let letters = free(rt.alloc())?;
+    let text = trees_text(rt.alloc(), letters.pres(), 5)?;
+    assert_eq!(rt; text.as_str(), LINES);
+    Ok(())
+}
+
+#[test]
+fn the_lines_of_the_first_type(rt: HostRuntime) -> Result<(), Fail> {
+    let letters = free(rt.alloc())?;
+    let text = trees_text(rt.alloc(), letters.pres(), 1)?;
+    assert_eq!(rt; text.as_str(), "x1.1\ny1.1\nf1 = x1 + y1\n");
     Ok(())
 }
 

@@ -7,6 +7,7 @@ use dt_letters::Letters;
 use nil_pres::Syllable;
 use std::alloc::Global;
 use std::test::Fail;
+use tree_text::{TreesFault, trees_text};
 
 /// Each of `[a2,a1]`, `[a3,a1]` and `[a4,a1]` is the greatest power of the next generator.
 fn large(alloc: Global) -> Result<Letters, Fail>
@@ -31,5 +32,13 @@ fn a_constant_is_too_large(rt: HostRuntime) -> Result<(), Fail> {
 fn a_polynomial_is_too_large(rt: HostRuntime) -> Result<(), Fail> {
     let mut letters = large(rt.alloc())?;
     assert_eq!(rt; poly_lines(rt.alloc(), &mut letters)?.as_str(), "wide");
+    Ok(())
+}
+
+#[test]
+fn there_are_no_lines(rt: HostRuntime) -> Result<(), Fail> {
+    let letters = large(rt.alloc())?;
+    let answer = trees_text(rt.alloc(), letters.pres(), 5);
+    assert!(rt; matches!(answer, Err(TreesFault::Wide)));
     Ok(())
 }

@@ -1,0 +1,4 @@
+pub mod Inside
+pub mod Texts
+pub mod Collections
+pub mod RightReplies
