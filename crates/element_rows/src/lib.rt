@@ -11,4 +11,6 @@ mod expression_words;
 #[cfg(test)]
 mod heisenberg;
 #[cfg(test)]
+mod loads;
+#[cfg(test)]
 mod query_lines;

@@ -6,10 +6,12 @@ mod args_fault;
 
 use args_fault::ArgsFault;
 use nil_io::{FileShelf, InputSource, OutputSink};
+use nil_propose::Proposer;
 use query_session::{Status, Words, session};
 use std::alloc::Global;
 use std::process::ExitCode;
 use std::{env, io};
+use tree_propose::TreeProposer;
 
 fn main(rt: HostRuntime) -> ExitCode {
     let alloc = rt.alloc();
@@ -27,20 +29,20 @@ fn main(rt: HostRuntime) -> ExitCode {
     ExitCode::from(status.number())
 }
 
-/// The session over the outside.
+/// The session over the outside, with the proposer of trees.
 fn answer(rt: &HostRuntime, words: &Words) -> Status {
+    let alloc = rt.alloc();
     let mut shelf = FileShelf::new(rt);
     let mut queries = InputSource::new(rt.reader());
     let mut out = OutputSink::new(io::writer(rt));
-    let proposers = Vec::new(rt.alloc());
-    session(
-        rt.alloc(),
-        words,
-        &mut shelf,
-        &mut queries,
-        &mut out,
-        proposers,
-    )
+    let mut proposers: Vec<Box<dyn Proposer>> = Vec::new(alloc);
+    let Ok(trees) = Box::new(alloc, TreeProposer::new(1)) else {
+        return Status::Memory;
+    };
+    let Ok(()) = proposers.push(trees) else {
+        return Status::Memory;
+    };
+    session(alloc, words, &mut shelf, &mut queries, &mut out, proposers)
 }
 
 /// The words behind the program's name.

@@ -4,7 +4,7 @@ use Rattle.nil_pres.specs.Presented.{Presented, IsPresented}
 use Rattle.nil_pres.specs.Relations.{relations_of, between}
 use Rattle.pres_text.specs.File.{IsFile}
 use Rattle.pres_text.specs.FirstFault.{first_fault}
-use Rattle.hall_table.specs.Tabled.{Tabled, IsTabled}
+use Rattle.hall_table.specs.Tabled.{Tabled, IsTabled, last_of}
 use Rattle.hall_table.specs.Multiplies.{Paired, IsChecked}
 use Rattle.identity_check.specs.Events.Event.{tries}
 use Rattle.overlap_test.specs.declared.overlap.Overlap.{Overlap}
@@ -29,23 +29,29 @@ use Rattle.hall_compile.specs.Outcomes.{IsInconsistent, IsWide, IsOutcome}
 use Rattle.hall_compile.specs.Proposals.{Proposal, proposal, IsAccepted, IsOf, IsReason, IsAsked, AreAsked}
 use Rattle.session_io.specs.Asked.{Asked}
 use Rattle.session_io.specs.Files.{Got, AreGot}
+use Rattle.session_io.specs.Lines.{as_line, as_lines}
+use Rattle.compile_text.specs.Lines.{compiled_lines}
+use Rattle.table_json.specs.Format.{table_text}
+use Rattle.table_json.specs.Saying.{IsTableText}
 use Rattle.query_session.specs.declared.refusal.Refusal.{Refusal}
 use Rattle.query_session.specs.declared.status.Status.{Status}
 use Rattle.query_session.specs.declared.status.Status.TheVariants as s
 use Rattle.query_session.specs.Refusals.{plain, Says}
-use Rattle.query_session.specs.Replies.{reply}
-use Rattle.query_session.specs.Right.{IsReply}
+use Rattle.query_replies.specs.Replies.{reply}
+use Rattle.query_replies.specs.Right.{IsReply}
 use Rattle.query_session.specs.Opening.{HasOpened, HasRefused, HasRefusal}
 use Rattle.query_session.specs.Presentations.{presentation, HasPresentation, IsFileRefused}
 use Rattle.query_session.specs.Compiling.{IsCompiledBy, IsCompiledOf, IsUncompiled, inconsistent, wide, IsRefused, in_file, uncompiled, HasAccepted, GoesOn, Compiles, IsSmoothCompile}
 use Rattle.query_session.specs.Run.{IsOpened}
+use Rattle.query_session.specs.Check as of_check
+use Rattle.query_session.specs.Compile.{IsTableOf}
 use Rattle.query_session.proofs.Plain.{IsPlain, file_plain, file_unnamed}
 use Rattle.query_session.proofs.Files.{HasRefusal-plain, HasRefusal-weaker}
 use Rattle.query_session.proofs.Completing.{file_not_refused, same_presentation}
 use Rattle.query_session.proofs.TableOpened.{All-at, none_stops}
 
 -- refusals are no write faults, nor want of memory
-uncompiled_plain : (os : ℕ → List Proposal) (p : Presented) (status : Status)
+pub uncompiled_plain : (os : ℕ → List Proposal) (p : Presented) (status : Status)
     → IsUncompiled os p status → IsPlain status
 uncompiled_plain os p status (inconsistent o h k) = ((λ h. cc), λ h. cc)
 uncompiled_plain os p status (wide at h) = ((λ h. cc), λ h. cc)
@@ -189,7 +195,7 @@ module _ (p : Presented) (os : ℕ → List Proposal) (compiles : Compiles p os)
       fits p os i h.above (compiles i h.above h.by h.list h.reached h.least h.level) at h.holds.1
   not_wide (place.Trees k) h = h
 
-  not_uncompiled : (status : Status) → IsUncompiled os p status → ⊥
+  pub not_uncompiled : (status : Status) → IsUncompiled os p status → ⊥
   not_uncompiled status (inconsistent o h k) = not_inconsistent o h
   not_uncompiled status (wide at h) = not_wide at h
 
@@ -208,3 +214,31 @@ module _
       same_presentation one a pres smooth.file p smooth.known smooth.is_file file q are.0 is in
       let P : Presented → Type 0 = λ x. IsUncompiled (os x) x t in
       not_uncompiled p (os p) smooth.compiles t (subst P (sym same) h)
+
+-- what is written of what was compiled
+pub HasOpened-verdict : (os : Presented → ℕ → List Proposal) (pres : List ℕ) (a : Asked)
+    (c : Compiled) (out : List ℕ) → out ≡ as_lines (compiled_lines c)
+    → HasOpened Compiled (IsCompiledOf os pres) a c → HasOpened (List ℕ) (of_check.IsVerdict os pres) a out
+HasOpened-verdict os pres a c out lines h = record {
+  files = h.files;
+  got = h.got;
+  is = record { compiled = c; is = h.is; lines = lines };
+}
+
+pub HasOpened-table_text : (os : Presented → ℕ → List Proposal) (pres : List ℕ) (a : Asked)
+    (c : Compiled) (out : List ℕ) (t : Tabled) → t ≡ c.checked.table
+    → out ≡ as_line (table_text t) → IsTableText (last_of t) (table_text t) t
+    → HasOpened Compiled (IsCompiledOf os pres) a c → HasOpened (List ℕ) (IsTableOf os pres) a out
+HasOpened-table_text os pres a c out t same text says h = record {
+  files = h.files;
+  got = h.got;
+  is = record {
+    compiled = c;
+    is = h.is;
+    says =
+        subst (λ (n : ℕ). IsTableText n (table_text c.checked.table) c.checked.table)
+        h.is.compiled.multiplies.last
+        (subst (λ (x : Tabled). IsTableText (last_of x) (table_text x) x) same says);
+    text = subst (λ (x : Tabled). out ≡ as_line (table_text x)) same text;
+  };
+}

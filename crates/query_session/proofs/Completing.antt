@@ -17,6 +17,8 @@ use Rattle.query_session.specs.Limits.{file_limit}
 use Rattle.query_session.specs.Known.{IsKnown, AreKnown}
 use Rattle.query_session.specs.Statuses.{end_status}
 use Rattle.query_session.specs.Runs.{IsWhole, before, answered, IsPromise, Wrote, IsRunOver}
+use Rattle.query_session.specs.Texts as texts
+use Rattle.query_session.specs.Texts.{IsWholeText, IsTextRun}
 use Rattle.query_session.specs.Presentations.{presentation, IsFileRefused, unread, bad_file}
 
 -- what is taken is a front of what was there
@@ -78,6 +80,23 @@ same_presentation one a pres file p known is bytes q got other =
     let same : bytes ≡ file = got_is_known a pres file_limit file bytes known got in
     one file p q is (subst (IsFile q) same other)
 
+-- what is written of a session whose whole outputs end with Done
+module _ (W : Status → List ℕ → Type 0) (P : List ℕ → Type 0) (f : Fed)
+    (done : (status : Status) (out : List ℕ) → W status out → status ≡ s.Done) where
+  wrote_done : (status : Status) (old new : Option (List ℕ)) → Wrote W P f status old new
+      → (status ≡ s.WriteFault → ⊥) → (status ≡ s.Done) ⊎ (status ≡ s.Memory)
+  wrote_done s.Done old new w n = inl refl
+  wrote_done (s.Usage kind) old new w n = inl (done (s.Usage kind) w.0 w.1)
+  wrote_done (s.BadFile line kind) old new w n = inl (done (s.BadFile line kind) w.0 w.1)
+  wrote_done (s.Inconsistent o) old new w n = inl (done (s.Inconsistent o) w.0 w.1)
+  wrote_done (s.Wide at) old new w n = inl (done (s.Wide at) w.0 w.1)
+  wrote_done s.ReadFault old new w n = inl (done s.ReadFault w.0 w.1)
+  wrote_done s.WriteFault old new w n = absurd (n refl)
+  wrote_done s.Memory old new w n = inr refl
+  wrote_done (s.TableRefused table) old new w n = inl (done (s.TableRefused table) w.0 w.1)
+  wrote_done s.LongInput old new w n = inl (done s.LongInput w.0 w.1)
+  wrote_done (s.Size size) old new w n = inl (done (s.Size size) w.0 w.1)
+
 module _ (I : Type 0) (opened : List Got → I → Type 0) (R : I → List ℕ → List ℕ → Type 0)
     (refused : Asked → List Got → List (List ℕ) → Status → Type 0) (limit : ℕ) (a : Asked) (f : Fed)
     (not_refused : (files : List Got) (names : List (List ℕ)) (status : Status) → AreGot a files
@@ -98,23 +117,29 @@ module _ (I : Type 0) (opened : List Got → I → Type 0) (R : I → List ℕ �
     whole_done status out (before names t r u) = absurd (not_refused got names t are r)
     whole_done status out (answered i e text is ends answer) = end_done e ends
 
-    wrote_done : (status : Status) (old new : Option (List ℕ))
-        → Wrote (IsWhole I opened R (refused a) limit f got taken more)
-        (IsPromise I opened R (refused a) limit f got taken more) f status old new
-        → (status ≡ s.WriteFault → ⊥) → (status ≡ s.Done) ⊎ (status ≡ s.Memory)
-    wrote_done s.Done old new w n = inl refl
-    wrote_done (s.Usage kind) old new w n = inl (whole_done (s.Usage kind) w.0 w.1)
-    wrote_done (s.BadFile line kind) old new w n = inl (whole_done (s.BadFile line kind) w.0 w.1)
-    wrote_done (s.Inconsistent o) old new w n = inl (whole_done (s.Inconsistent o) w.0 w.1)
-    wrote_done (s.Wide at) old new w n = inl (whole_done (s.Wide at) w.0 w.1)
-    wrote_done s.ReadFault old new w n = inl (whole_done s.ReadFault w.0 w.1)
-    wrote_done s.WriteFault old new w n = absurd (n refl)
-    wrote_done s.Memory old new w n = inr refl
-    wrote_done (s.TableRefused table) old new w n = inl (whole_done (s.TableRefused table) w.0 w.1)
-    wrote_done s.LongInput old new w n = inl (whole_done s.LongInput w.0 w.1)
-
   pub IsRunOver-done : (status : Status) (old new : Option (List ℕ))
       → IsRunOver I opened R refused limit a f status old new
       → (status ≡ s.WriteFault → ⊥) → (status ≡ s.Done) ⊎ (status ≡ s.Memory)
   IsRunOver-done status old new run n =
-      wrote_done run.files run.got run.taken run.more run.took.took status old new run.wrote n
+      wrote_done (IsWhole I opened R (refused a) limit f run.files run.taken run.more)
+      (IsPromise I opened R (refused a) limit f run.files run.taken run.more) f
+      (whole_done run.files run.got run.taken run.more run.took.took) status old new run.wrote n
+
+-- a session that writes a text
+module _ (T : List Got → List ℕ → Type 0)
+    (refused : Asked → List Got → List (List ℕ) → Status → Type 0) (limit : ℕ) (a : Asked) (f : Fed)
+    (not_refused : (files : List Got) (names : List (List ℕ)) (status : Status) → AreGot a files
+    → refused a files names status → ⊥) where
+  text_done : (got : List Got) → AreGot a got → (status : Status) (out : List ℕ)
+      → IsWholeText T (refused a) f got status out → status ≡ s.Done
+  text_done got are status out (texts.before names t r u) =
+      absurd (not_refused got names t are r)
+  text_done got are status out (texts.written text h u) = refl
+
+  pub IsTextRun-done : (status : Status) (old new : Option (List ℕ))
+      → IsTextRun T refused limit a f status old new
+      → (status ≡ s.WriteFault → ⊥) → (status ≡ s.Done) ⊎ (status ≡ s.Memory)
+  IsTextRun-done status old new run n =
+      wrote_done (IsWholeText T (refused a) f run.files)
+      (λ out. (t : Status) × IsWholeText T (refused a) f run.files t out) f
+      (text_done run.files run.got) status old new run.wrote n

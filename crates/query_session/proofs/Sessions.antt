@@ -24,31 +24,10 @@ use Rattle.query_session.specs.Runs.{IsWhole, before, answered, IsPromise, refus
 use Rattle.query_session.specs.Refusals.{Says}
 use Rattle.query_session.specs.Opening.{HasOpened, HasRefusal}
 use Rattle.query_session.specs.Ends.{IsAnsweredAs, IsRefusedAs, RefusesWith}
-use Rattle.query_session.specs.Commands.{Command, IsUsage, IsSessionOf, IsSession, command_of, run, run_table}
+use Rattle.query_session.specs.Commands.{Command, IsUsage, IsSessionOf, IsSession, command_of, run, run_table, check, compile, trees, collect, example, load}
 use Rattle.query_session.proofs.Plain.{IsPlain}
 use Rattle.query_session.proofs.Written.{Wrote-ended}
-
--- nothing was taken of a source that isn't touched
-Consumes-none : (left : Option (List ℕ)) → Consumes left left []
-Consumes-none None = tt
-Consumes-none (Some xs) = refl
-
-left_of : (left : Option (List ℕ)) → IfSome left (λ xs. unwrap_or left [] ≡ xs)
-left_of None = tt
-left_of (Some xs) = refl
-
-IsTaken-untouched : (limit : ℕ) (f : Fed) → IsUntouched f
-    → IsTaken limit f [] (unwrap_or f.left [])
-IsTaken-untouched limit f u = record {
-  took =
-      subst (λ (now : Option (List ℕ)). Consumes f.left now []) (sym u.left)
-      (Consumes-none f.left);
-  left =
-      subst (λ (now : Option (List ℕ)). IfSome now (λ xs. unwrap_or f.left [] ≡ xs)) (sym u.left)
-      (left_of f.left);
-  given = (omega (arith, u.given), omega (arith, u.given));
-  bound = omega arith;
-}
+use Rattle.query_session.proofs.Untouched.{IsTaken-untouched, IsRun-refused}
 
 -- the words fit no form
 pub IsRun-usage : (limit : ℕ) (a : Asked) (f : Fed) (r : Status) (o n : Option (List ℕ))
@@ -73,55 +52,16 @@ IsRun-usage limit a f r o n u h =
 module _ (I : Type 0) (opened : List Got → I → Type 0) (R : I → List ℕ → List ℕ → Type 0)
     (refused : Asked → List Got → List (List ℕ) → Status → Type 0) (limit : ℕ) (a : Asked) (f : Fed)
     (o n : Option (List ℕ)) where
-  -- a session that was refused, or found no memory before the lines
-  module _ (d : Refusal) (r : Status) (h : IsRefusedAs d f r o n) (files : List Got) where
-    refused_short : d.status ≡ s.Memory
-        → Wrote (IsWhole I opened R (refused a) limit f files [] (unwrap_or f.left []))
-        (IsPromise I opened R (refused a) limit f files [] (unwrap_or f.left [])) f r o n
-    refused_short m =
-        let k = h.memory m in
-        let S : Status → Type 0 =
-        λ t. Wrote (IsWhole I opened R (refused a) limit f files [] (unwrap_or f.left []))
-        (IsPromise I opened R (refused a) limit f files [] (unwrap_or f.left [])) f t o n in
-        subst S (sym k.0) (
-          [],
-          nothing h.untouched,
-          subst (λ (x : Option (List ℕ)). Appends o x []) (sym k.1) (Appends-none o),
-        )
-
-    refused_whole : (names : List (List ℕ)) → refused a files names d.status → Says names d
-        → IsPlain d.status
-        → Wrote (IsWhole I opened R (refused a) limit f files [] (unwrap_or f.left []))
-        (IsPromise I opened R (refused a) limit f files [] (unwrap_or f.left [])) f r o n
-    refused_whole names k says plain =
-        Wrote-ended (IsWhole I opened R (refused a) limit f files [] (unwrap_or f.left []))
-        (IsPromise I opened R (refused a) limit f files [] (unwrap_or f.left [])) f o n d.status
-        (as_lines (text_of names d.status)) r plain.0 plain.1
-        (before names d.status k h.untouched) (refusal names d.status k h.untouched)
-        (subst (λ (t : List ℕ). Ended t d.status o n r) says (h.written plain.1))
-
-    refused_either : (plain : (names : List (List ℕ)) → refused a files names d.status
-        → IsPlain d.status)
-        → (d.status ≡ s.Memory)
-        ⊎ ((names : List (List ℕ)) × refused a files names d.status × Says names d)
-        → Wrote (IsWhole I opened R (refused a) limit f files [] (unwrap_or f.left []))
-        (IsPromise I opened R (refused a) limit f files [] (unwrap_or f.left [])) f r o n
-    refused_either plain (inl m) = refused_short m
-    refused_either plain (inr (names, k, says)) = refused_whole names k says (plain names k)
-
   IsRunOver-refused : (d : Refusal) (r : Status)
-      → ((files : List Got) (names : List (List ℕ)) → refused a files names d.status
-      → IsPlain d.status)
+      → ((files : List Got) (names : List (List ℕ)) (status : Status)
+      → refused a files names status → IsPlain status)
       → HasRefusal refused a d → IsRefusedAs d f r o n
       → IsRunOver I opened R refused limit a f r o n
-  IsRunOver-refused d r plain k h = record {
-    files = k.files;
-    got = k.got;
-    taken = [];
-    more = unwrap_or f.left [];
-    took = IsTaken-untouched limit f h.untouched;
-    wrote = refused_either d r h k.files (plain k.files) k.cause;
-  }
+  IsRunOver-refused d r plain k h =
+      IsRun-refused refused limit a f o n (IsWhole I opened R (refused a) limit f)
+      (IsPromise I opened R (refused a) limit f)
+      (λ files taken more names status. before names status)
+      (λ files taken more names status. refusal names status) plain d r k h
 
   -- a session over what was opened
   module _ (i : I) (files : List Got) (is : opened files i) (taken more : List ℕ) where
@@ -180,7 +120,7 @@ module _ (I : Type 0) (opened : List Got → I → Type 0) (R : I → List ℕ �
         → IsRunOver I opened R refused limit a f r o n
     IsRunOver-result (Ok i) h k answer none = IsRunOver-answered i (reply i) r h (right i h) answer
     IsRunOver-result (Err d) h k none said =
-        IsRunOver-refused d r (λ files names. plain files names d.status) k said
+        IsRunOver-refused d r plain k said
 
 -- a write fault comes from the sink
 module _ (I : Type 0) (refused : Asked → List Got → List (List ℕ) → Status → Type 0) (a : Asked)
@@ -212,6 +152,12 @@ given-bound os (Some command) limit a f status o n h = of_command command h
         → f.given' ≤ f.given + (limit + 4096)
     of_command (run pres) k = omega (arith, k.took.given.1, k.took.bound)
     of_command (run_table pres table) k = omega (arith, k.took.given.1, k.took.bound)
+    of_command (check pres) k = omega (arith, k.took.given.1, k.took.bound)
+    of_command (compile pres) k = omega (arith, k.took.given.1, k.took.bound)
+    of_command (trees pres name) k = omega (arith, k.took.given.1, k.took.bound)
+    of_command (collect pres) k = omega (arith, k.took.given.1, k.took.bound)
+    of_command (example kind size) k = omega (arith, k.took.given.1, k.took.bound)
+    of_command (load rows count seed) k = omega (arith, k.took.given.1, k.took.bound)
 
 -- the words are those of the command
 pub IsSession-of : (os : Presented → ℕ → List Proposal) (limit : ℕ) (a : Asked) (f : Fed)

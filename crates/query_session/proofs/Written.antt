@@ -24,6 +24,7 @@ module _ (W : Status → List ℕ → Type 0) (P : List ℕ → Type 0) (f : Fed
   Wrote-whole s.Memory out n m h w = absurd (m refl)
   Wrote-whole (s.TableRefused refusal) out n m h w = (out, h, w)
   Wrote-whole s.LongInput out n m h w = (out, h, w)
+  Wrote-whole (s.Size size) out n m h w = (out, h, w)
 
   Wrote-stopped : (text : List ℕ) (stop : Stop) → P text → IsStopped text old new stop
       → Wrote W P f (stop_status stop) old new

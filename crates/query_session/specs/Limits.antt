@@ -2,7 +2,6 @@
 --   file_limit    the greatest number of bytes of a presentation file
 --   table_limit   the greatest number of bytes of a table file
 --   query_limit   the greatest number of query bytes
---   line_limit    the greatest number of bytes of a query line
 use Rattle.std.specs.Prelude.{ℕ}
 
 abbrev pub file_limit : ℕ
@@ -13,6 +12,3 @@ table_limit = 16777216
 
 abbrev pub query_limit : ℕ
 query_limit = 16777216
-
-abbrev pub line_limit : ℕ
-line_limit = 65536

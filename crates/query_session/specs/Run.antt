@@ -11,7 +11,7 @@ use Rattle.hall_compile.specs.Proposals.{Proposal}
 use Rattle.session_io.specs.Asked.{Asked, Fed}
 use Rattle.session_io.specs.Files.{Got}
 use Rattle.query_session.specs.declared.status.Status.{Status}
-use Rattle.query_session.specs.Right.{IsReply}
+use Rattle.query_replies.specs.Right.{IsReply}
 use Rattle.query_session.specs.Runs.{IsRunOver}
 use Rattle.query_session.specs.Compiling.{IsCompiledOf, IsRefused}
 

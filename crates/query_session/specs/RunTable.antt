@@ -33,7 +33,7 @@ use Rattle.query_session.specs.declared.status.Status.{Status}
 use Rattle.query_session.specs.declared.status.Status.TheVariants as s
 use Rattle.query_session.specs.declared.table_refusal.TableRefusal.TheVariants as r
 use Rattle.query_session.specs.Limits.{table_limit}
-use Rattle.query_session.specs.Right.{IsReply}
+use Rattle.query_replies.specs.Right.{IsReply}
 use Rattle.query_session.specs.Statuses.{file_status}
 use Rattle.query_session.specs.Runs.{IsRunOver}
 use Rattle.query_session.specs.Known.{IsKnown}

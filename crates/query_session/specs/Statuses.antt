@@ -10,8 +10,10 @@
 --   file_status e            the status of a file that wasn't read
 --   pres_status fault        the status of a presentation file's first fault
 --   table_status fault       the status of a table file's first fault
+--   example_status fault     the status of a fault of an example
 --   Ended text status .. r   the text was written and r is the status, or writing stopped
 use Rattle.std.specs.Prelude.{ℕ, List, [], ◌∷◌, ◌++◌, codes, Option, Result, Ok, Err}
+use Rattle.std.specs.Fmt.{decimal}
 use Rattle.std.specs.Io.KnownBytes.{Appends}
 use Rattle.pres_text.specs.declared.pres_fault.PresFault.{PresFault}
 use Rattle.pres_text.specs.declared.pres_fault.PresFault.TheVariants as fault
@@ -19,6 +21,8 @@ use Rattle.pres_text.specs.FaultTexts.{file_fault_text}
 use Rattle.table_json.specs.declared.table_fault.TableFault.{TableFault}
 use Rattle.table_json.specs.declared.table_fault.TableFault.TheVariants as table
 use Rattle.table_json.specs.FaultTexts as table_texts
+use Rattle.nil_examples.specs.declared.example_fault.ExampleFault.{ExampleFault}
+use Rattle.nil_examples.specs.declared.example_fault.ExampleFault.TheVariants as example
 use Rattle.identity_check.specs.Texts.{identity_text, failure_text}
 use Rattle.nil_io.specs.declared.shelf_fault.ShelfFault.{ShelfFault}
 use Rattle.nil_io.specs.declared.shelf_fault.ShelfFault.TheVariants as shelf
@@ -45,6 +49,7 @@ number_of s.WriteFault = 7
 number_of s.Memory = 8
 number_of (s.TableRefused refusal) = 9
 number_of s.LongInput = 10
+number_of (s.Size n) = 11
 
 abbrev pub refusal_text : TableRefusal → List ℕ
 refusal_text (r.Form fault) = table_texts.fault_text fault
@@ -62,6 +67,7 @@ plain_text s.WriteFault = []
 plain_text s.Memory = []
 plain_text (s.TableRefused refusal) = refusal_text refusal ∷ []
 plain_text s.LongInput = end_text end.Long
+plain_text (s.Size n) = (codes "size " ++ decimal n) ∷ []
 
 abbrev pub text_of : List (List ℕ) → Status → List (List ℕ)
 text_of names (s.Inconsistent o) = inconsistent_lines names o
@@ -93,6 +99,10 @@ pres_status fault.Memory = s.Memory
 abbrev pub table_status : TableFault → Status
 table_status table.Memory = s.Memory
 table_status fault = s.TableRefused (r.Form fault)
+
+abbrev pub example_status : ExampleFault → Status
+example_status (example.Size n) = s.Size n
+example_status example.Memory = s.Memory
 
 pub data Ended (text : List ℕ) (status : Status) (old new : Option (List ℕ)) : Status → Type 0 where
   ended : Appends old new text → Ended text status old new status

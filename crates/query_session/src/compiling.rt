@@ -40,7 +40,7 @@ pub(crate) fn compiled_of<H: Shelf>(
 }
 
 /// A presentation, compiled, or how its compile ends otherwise.
-fn compiled(
+pub(crate) fn compiled(
     alloc: Global,
     pres: &Presentation,
     proposers: Vec<Box<dyn Proposer>>,

@@ -8,6 +8,3 @@ pub(crate) const TABLE_LIMIT: u64 = 16777216;
 
 /// The greatest number of query bytes.
 pub(crate) const QUERY_LIMIT: u64 = 16777216;
-
-/// The greatest number of bytes of a query line.
-pub(crate) const LINE_LIMIT: usize = 65536;

@@ -11,8 +11,7 @@ ghost use Rattle.query_session.specs.Opening.{HasOpened, HasRefused, HasRefusal}
 ghost use Rattle.query_session.specs.RunTable.{IsAccepted, IsOpened, IsRefused, IsRunTableOf, IsTableRefused};
 
 use super::answering::answer_by;
-use super::calculator::Calculator;
-use super::laws::{consistent, right_replies};
+use super::laws::consistent;
 use super::limits::TABLE_LIMIT;
 use super::presentations::read_presentation;
 use super::refusal::Refusal;
@@ -21,6 +20,8 @@ use super::table_refusal::TableRefusal;
 use identity_check::{Verdict, check};
 use nil_io::{Shelf, Sink, Source};
 use nil_pres::Presentation;
+use query_replies::Calculator;
+use query_replies::laws::right_replies;
 use std::alloc::Global;
 use table_json::read_table;
 

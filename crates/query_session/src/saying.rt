@@ -1,6 +1,7 @@
 //! The texts of statuses.
 
-ghost use Rattle.std.specs.Prelude.{◌≡◌, ◌≤◌, [], ◌∷◌, string_bytes, IfOk, IfErr, OnOk, IsErrOf};
+ghost use Rattle.std.specs.Prelude.{◌≡◌, ◌≤◌, [], ◌∷◌, ◌++◌, codes, string_bytes, IfOk, IfErr, OnOk, IsErrOf};
+ghost use Rattle.std.specs.Fmt.{decimal};
 ghost use Rattle.std.specs.Io.KnownBytes.{Appends};
 ghost use Rattle.pres_text.specs.FaultTexts.{file_fault_text};
 ghost use Rattle.nil_io.specs.Causes.{Rose};
@@ -54,6 +55,7 @@ fn status_line(alloc: Global, status: &Status) -> Result<String, AllocError>
         Status::ReadFault => String::from_str(alloc, "read fault\n"),
         Status::TableRefused(refusal) => table_refused_line(alloc, refusal),
         Status::LongInput => String::from_str(alloc, "long input\n"),
+        Status::Size(size) => size_line(alloc, *size),
         Status::Done
         | Status::Inconsistent(_)
         | Status::Wide(_)
@@ -66,6 +68,15 @@ fn bad_file_line(alloc: Global, line: u64, kind: FileKind) -> Result<String, All
     ensures { IfOk result (λ text. string_bytes text ≡ as_lines (file_fault_text line kind ∷ [])) }
 {
     let mut text = fault_text(alloc, line, kind)?;
+    text.push_str("\n")?;
+    Ok(text)
+}
+
+fn size_line(alloc: Global, size: u64) -> Result<String, AllocError>
+    ensures { IfOk result (λ text. string_bytes text
+        ≡ as_lines ((codes "size " ++ decimal size) ∷ [])) }
+{
+    let mut text = format!(in alloc; "size {size}")?;
     text.push_str("\n")?;
     Ok(text)
 }

@@ -35,6 +35,8 @@ pub enum Status {
     TableRefused(TableRefusal),
     /// A file or the query lines are too long.
     LongInput,
+    /// The first size that is out of range.
+    Size(u64),
 }
 
 impl Status {
@@ -53,6 +55,7 @@ impl Status {
             Status::Memory => 8,
             Status::TableRefused(_) => 9,
             Status::LongInput => 10,
+            Status::Size(_) => 11,
         }
     }
 }

@@ -5,4 +5,6 @@
 pub enum UsageKind {
     /// They fit no form.
     Words,
+    /// A name that they give is no generator.
+    NoGenerator,
 }

@@ -1,12 +1,7 @@
 //! Presentations that are compiled, inconsistent or wide.
 
-use super::fixtures::answered;
+use super::fixtures::{FREE, INCONSISTENT, answered};
 use std::test::Fail;
-
-const FREE: &str =
-    "nilpotent 1\ngenerators a1 a2 a3 a4 a5\n[a2,a1] = a3\n[a3,a1] = a4\n[a3,a2] = a5\n";
-
-const INCONSISTENT: &str = "nilpotent 1\ngenerators a1 a2 a3 a4 a5\n[a3,a2] = a4\n[a4,a1] = a5\n";
 
 const WIDE_OVERLAP: &str = "nilpotent 1\ngenerators a1 a2 a3 a4 a5 a6\n\
     [a2,a1] = a5^9223372036854775807\n[a3,a1] = a4^9223372036854775807\n\

@@ -6,6 +6,13 @@ use std::alloc::{AllocError, Global};
 
 pub(crate) const HEISENBERG: &str = "nilpotent 1\ngenerators a1 a2 a3\n[a2,a1] = a3\n";
 
+/// The text of `examples/free23.pres`.
+pub(crate) const FREE: &str =
+    "nilpotent 1\ngenerators a1 a2 a3 a4 a5\n[a2,a1] = a3\n[a3,a1] = a4\n[a3,a2] = a5\n";
+
+/// The text of `examples/inconsistent.pres`.
+pub(crate) const INCONSISTENT: &str = "nilpotent 1\ngenerators a1 a2 a3 a4 a5\n[a3,a2] = a4\n[a4,a1] = a5\n";
+
 /// The text of `examples/heis.table`.
 #[rattlefmt::skip]
 pub(crate) const HEISENBERG_TABLE: &str = "{\"format\":\"hall table 1\",\"generators\":3,\"level\":1,\"polynomials\":[[[\"1\",\"x1\",1],[\"1\",\"y1\",1]],[[\"1\",\"x2\",1],[\"1\",\"y2\",1]],[[\"1\",\"x3\",1],[\"1\",\"y3\",1],[\"1\",\"x2\",1,\"y1\",1]]]}\n";

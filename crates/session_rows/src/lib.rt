@@ -4,7 +4,11 @@
 #![tactic(auto)]
 
 #[cfg(test)]
+mod collected;
+#[cfg(test)]
 mod compiled;
+#[cfg(test)]
+mod examples;
 #[cfg(test)]
 mod files;
 #[cfg(test)]
@@ -14,9 +18,13 @@ mod long;
 #[cfg(test)]
 mod own;
 #[cfg(test)]
+mod proposers;
+#[cfg(test)]
 mod refusals;
 #[cfg(test)]
 mod rows;
 pub mod sure;
 #[cfg(test)]
 mod tables;
+#[cfg(test)]
+mod texts;

@@ -1,7 +1,8 @@
 //! Table files: sessions over those that are accepted, and refusals of the others.
 
 use super::fixtures::{
-    HEISENBERG, HEISENBERG_TABLE, by_table, run_over, shelf_of, source_of, words_of,
+    FREE, HEISENBERG, HEISENBERG_TABLE, INCONSISTENT, by_table, run_over, shelf_of, source_of,
+    words_of,
 };
 use std::alloc::{AllocError, Global};
 use std::test::Fail;
@@ -21,7 +22,7 @@ const LAST_TERMS: [(&str, &str); 7] = [
 ];
 
 /// The table of the Heisenberg group with these last terms.
-fn with_last(alloc: Global, terms: &str) -> Result<String, AllocError> {
+pub(crate) fn with_last(alloc: Global, terms: &str) -> Result<String, AllocError> {
     let mut text = String::from_str(
         alloc,
         r#"{"format":"hall table 1","generators":3,"level":1,"polynomials":[[["1","x1",1],["1","y1",1]],[["1","x2",1],["1","y2",1]],[["1","x3",1],["1","y3",1],"#,
@@ -43,11 +44,8 @@ fn a_table_answers_where_it_is_accepted(rt: HostRuntime) -> Result<(), Fail> {
     Ok(())
 }
 
-/// A free nilpotent group of class 3, which isn't central, and its table.
-const FREE: &str =
-    "nilpotent 1\ngenerators a1 a2 a3 a4 a5\n[a2,a1] = a3\n[a3,a1] = a4\n[a3,a2] = a5\n";
-
-const FREE_TABLE: &str =
+/// The table of the free group of class three.
+pub(crate) const FREE_TABLE: &str =
     r#"{"format":"hall table 1","generators":5,"level":1,"polynomials":[[["1","x1",1],["1","y1",1]],[["1","x2",1],["1","y2",1]],[["1","x3",1],["1","y3",1],["1","x2",1,"y1",1]],[["1","x4",1],["1","y4",1],["1","x3",1,"y1",1],["1","x2",1,"y1",2]],[["1","x5",1],["1","y5",1],["1","x3",1,"y2",1],["1","x2",2,"y1",1],["1","x2",1,"y1",1,"y2",1]]]}"#;
 
 /// Two generators that commute, and a table for which a number overflows.
@@ -55,9 +53,6 @@ const PLANE: &str = "nilpotent 1\ngenerators a1 a2\n";
 
 const PLANE_TABLE: &str =
     r#"{"format":"hall table 1","generators":2,"level":1,"polynomials":[[["1","x1",1],["1","y1",1]],[["1","x2",1],["1","y2",1],["170141183460469231731687303715884105727","x1",1,"y1",2],["170141183460469231731687303715884105727","x1",1,"y1",3]]]}"#;
-
-/// Two relations whose overlap doesn't agree: no table is accepted.
-const INCONSISTENT: &str = "nilpotent 1\ngenerators a1 a2 a3 a4 a5\n[a3,a2] = a4\n[a4,a1] = a5\n";
 
 /// Presentations and tables, and what a session with the query `a2^2*a1^3` writes.
 #[rattlefmt::skip]

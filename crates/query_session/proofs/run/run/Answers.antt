@@ -1,7 +1,7 @@
 use Rattle.std.proofs.Common.{[]}
 use Rattle.hall_table.specs.Multiplies.{Paired}
-use Rattle.query_session.specs.Replies.{reply}
-use Rattle.query_session.specs.Right.{IsReply}
+use Rattle.query_replies.specs.Replies.{reply}
+use Rattle.query_replies.specs.Right.{IsReply}
 use Rattle.query_session.specs.Compiling.{IsRefused}
 use Rattle.query_session.specs.Run.{IsOpened}
 use Rattle.query_session.proofs.CompileOpened.{compile_plain, IsReply-opened}

@@ -1,0 +1,5 @@
+pub mod Remainders
+pub mod Weighing
+pub mod Counting
+pub mod Lines
+pub mod RightTallies

@@ -1,0 +1,5 @@
+pub mod Answers
+pub mod Weights
+pub mod Counts
+pub mod Tallies
+pub mod Steps

@@ -1,0 +1,4 @@
+pub mod EndsAtLine
+pub mod VectorTexts
+pub mod RightReplies
+pub mod EqualReplies
