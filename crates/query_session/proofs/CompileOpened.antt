@@ -1,7 +1,7 @@
 -- What a compile gives to a command, or why it is refused.
-use Rattle.std.proofs.Common.{◌≡◌, ℕ, suc, ◌≤◌, ◌⊎◌, inl, inr, List, [], ◌∷◌, ◌++◌, All, Option, Some, None, Result, Ok, Err, IfOk, IfErr, refl, sym, subst}
+use Rattle.std.proofs.Common.{◌≡◌, ℕ, ◌⊎◌, inl, inr, List, [], ◌∷◌, ◌++◌, All, Some, None, Result, Ok, Err, IfOk, IfErr, refl, sym, subst}
 use Rattle.nil_pres.specs.Presented.{Presented, IsPresented}
-use Rattle.nil_pres.specs.Relations.{relations_of, between}
+use Rattle.nil_pres.specs.Relations.{between}
 use Rattle.pres_text.specs.File.{IsFile}
 use Rattle.pres_text.specs.FirstFault.{first_fault}
 use Rattle.hall_table.specs.Tabled.{Tabled, IsTabled, last_of}
@@ -24,9 +24,9 @@ use Rattle.hall_compile.specs.declared.wide_place.WidePlace.{WidePlace}
 use Rattle.hall_compile.specs.declared.wide_place.WidePlace.TheVariants as place
 use Rattle.hall_compile.specs.Choices.{SumOverflows}
 use Rattle.hall_compile.specs.Deciding.{Decides}
-use Rattle.hall_compile.specs.Levels.{Reached, paired}
+use Rattle.hall_compile.specs.Levels.{paired}
 use Rattle.hall_compile.specs.Outcomes.{IsInconsistent, IsWide, IsOutcome}
-use Rattle.hall_compile.specs.Proposals.{Proposal, proposal, IsAccepted, IsOf, IsReason, IsAsked, AreAsked}
+use Rattle.hall_compile.specs.Proposals.{Proposal, proposal, IsAccepted, IsOf, IsReason, AreAsked}
 use Rattle.session_io.specs.Asked.{Asked}
 use Rattle.session_io.specs.Files.{Got, AreGot}
 use Rattle.session_io.specs.Lines.{as_line, as_lines}

@@ -1,5 +1,5 @@
 -- The command `load M COUNT SEED`: what is written, or refused.
-use Rattle.std.proofs.Common.{◌≡◌, ◌⊎◌, inl, inr, ℕ, List, [], length, Option, Some, None, IfSome, IfNone, Result, Ok, Err, IfOk, IfErr, String, string_bytes, refl, subst}
+use Rattle.std.proofs.Common.{◌≡◌, ◌⊎◌, inl, inr, ℕ, List, [], length, None, IfSome, IfNone, Result, Ok, Err, IfOk, IfErr, String, string_bytes, refl, subst}
 use Rattle.std.specs.Result.{IsErrOf, IsOkUnless}
 use Rattle.std.specs.declared.alloc.Global.{Global}
 use Rattle.nil_pres.specs.Presented.{Presented}

@@ -1,6 +1,5 @@
 -- Sessions of a command that answers lines, and of words that fit no form.
-use Rattle.std.proofs.Common.{◌≡◌, ℕ, ◌+◌, ◌≤◌, ◌⊎◌, inl, inr, List, [], Option, Some, None, Result, Ok, Err, IfOk, IfErr, IfSome, unwrap_or, refl, sym, subst, arith}
-use Rattle.std.specs.Io.KnownBytes.{Appends, Consumes}
+use Rattle.std.proofs.Common.{◌≡◌, ℕ, ◌+◌, ◌≤◌, ◌⊎◌, inl, inr, List, [], Option, Some, None, Result, Ok, Err, IfOk, IfErr, unwrap_or, refl, sym, subst, arith}
 use Rattle.nil_pres.specs.Presented.{Presented}
 use Rattle.hall_compile.specs.Proposals.{Proposal}
 use Rattle.session_io.specs.declared.end.End.{End}
@@ -10,17 +9,15 @@ use Rattle.session_io.specs.declared.stop.Stop.TheVariants as stop
 use Rattle.session_io.specs.Asked.{Asked, Fed, IsUntouched}
 use Rattle.session_io.specs.Files.{Got}
 use Rattle.session_io.specs.Lines.{as_lines}
-use Rattle.session_io.specs.Taking.{IsTaken}
 use Rattle.session_io.specs.Answers.{by_reply, IsPromised, IsOutput, IsAnswered}
 use Rattle.session_io.specs.Stops.{IsFront}
-use Rattle.session_io.proofs.Appending.{Appends-none}
 use Rattle.session_io.proofs.Weakening.{IsAnswered-weaker}
 use Rattle.query_session.specs.declared.usage_kind.UsageKind.TheVariants as reason
 use Rattle.query_session.specs.declared.refusal.Refusal.{Refusal}
 use Rattle.query_session.specs.declared.status.Status.{Status}
 use Rattle.query_session.specs.declared.status.Status.TheVariants as s
 use Rattle.query_session.specs.Statuses.{text_of, outcome_status, Ended}
-use Rattle.query_session.specs.Runs.{IsWhole, before, answered, IsPromise, refusal, answers, nothing, at_line, Wrote, IsRun, IsRunOver}
+use Rattle.query_session.specs.Runs.{IsWhole, before, answered, IsPromise, refusal, answers, at_line, Wrote, IsRun, IsRunOver}
 use Rattle.query_session.specs.Refusals.{Says}
 use Rattle.query_session.specs.Opening.{HasOpened, HasRefusal}
 use Rattle.query_session.specs.Ends.{IsAnsweredAs, IsRefusedAs, RefusesWith}

@@ -1,5 +1,5 @@
 -- Sessions of a command that writes one text.
-use Rattle.std.proofs.Common.{◌≡◌, ℕ, List, [], Option, Result, Ok, Err, IfOk, IfErr, String, string_bytes, unwrap_or, refl}
+use Rattle.std.proofs.Common.{ℕ, List, [], Option, Result, Ok, Err, IfOk, IfErr, String, string_bytes, unwrap_or}
 use Rattle.std.specs.declared.alloc.Global.{Global}
 use Rattle.session_io.specs.Asked.{Asked, Fed, IsUntouched}
 use Rattle.session_io.specs.Files.{Got}

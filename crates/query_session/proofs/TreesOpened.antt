@@ -1,5 +1,5 @@
 -- The command `trees PRES NAME`: what is written, or refused.
-use Rattle.std.proofs.Common.{◌≡◌, ◌⊎◌, inl, inr, ℕ, List, [], ◌∷◌, Some, None, Result, Ok, Err, IfOk, IfErr, String, string_bytes, refl, sym, ◌∙◌, subst}
+use Rattle.std.proofs.Common.{◌≡◌, ◌⊎◌, inl, inr, ℕ, List, [], ◌∷◌, Some, None, Result, Ok, Err, IfOk, IfErr, String, string_bytes, refl, sym, subst}
 use Rattle.std.specs.declared.alloc.Global.{Global}
 use Rattle.nil_pres.specs.Presented.{Presented}
 use Rattle.pres_text.specs.File.{IsFile}

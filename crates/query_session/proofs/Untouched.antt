@@ -2,7 +2,7 @@
 use Rattle.std.proofs.Common.{◌≡◌, ℕ, ◌⊎◌, inl, inr, List, [], Option, Some, None, IfSome, unwrap_or, refl, sym, subst, arith}
 use Rattle.std.specs.Io.KnownBytes.{Appends, Consumes}
 use Rattle.session_io.specs.Asked.{Asked, Fed, IsUntouched}
-use Rattle.session_io.specs.Files.{Got, AreGot}
+use Rattle.session_io.specs.Files.{Got}
 use Rattle.session_io.specs.Lines.{as_lines}
 use Rattle.session_io.specs.Taking.{IsTaken}
 use Rattle.session_io.proofs.Appending.{Appends-none}
