@@ -11,7 +11,8 @@ pub(crate) const FREE: &str =
     "nilpotent 1\ngenerators a1 a2 a3 a4 a5\n[a2,a1] = a3\n[a3,a1] = a4\n[a3,a2] = a5\n";
 
 /// The text of `examples/inconsistent.pres`.
-pub(crate) const INCONSISTENT: &str = "nilpotent 1\ngenerators a1 a2 a3 a4 a5\n[a3,a2] = a4\n[a4,a1] = a5\n";
+pub(crate) const INCONSISTENT: &str =
+    "nilpotent 1\ngenerators a1 a2 a3 a4 a5\n[a3,a2] = a4\n[a4,a1] = a5\n";
 
 /// The text of `examples/heis.table`.
 #[rattlefmt::skip]

@@ -1,6 +1,8 @@
 //! Commands that write one text, and a source that they leave as it is.
 
-use super::fixtures::{Ended, FREE, HEISENBERG, HEISENBERG_TABLE, run_over, shelf_of, source_of, words_of};
+use super::fixtures::{
+    Ended, FREE, HEISENBERG, HEISENBERG_TABLE, run_over, shelf_of, source_of, words_of,
+};
 use super::tables::FREE_TABLE;
 use std::alloc::{AllocError, Global};
 use std::test::Fail;

@@ -51,26 +51,26 @@ returns-clause-run_table g c = λ p t pres table command is_file within says tab
 pub returns-clause-compiled : goal.returns-clause-compiled
 returns-clause-compiled g c = λ p name command is_file within compiles.
     by_either command
-      (λ asks. c.session.ensures.complete p record {
-        command = check name;
-        asks = asks;
-        smooth = record {
-          file = _;
-          known = record { known = refl; within = within; shelf = still };
-          is_file = is_file;
-          compiles = compiles;
-        };
-      } still)
-      (λ asks. c.session.ensures.complete p record {
-        command = compile name;
-        asks = asks;
-        smooth = record {
-          file = _;
-          known = record { known = refl; within = within; shelf = still };
-          is_file = is_file;
-          compiles = compiles;
-        };
-      } still)
+    (λ asks. c.session.ensures.complete p record {
+      command = check name;
+      asks = asks;
+      smooth = record {
+        file = _;
+        known = record { known = refl; within = within; shelf = still };
+        is_file = is_file;
+        compiles = compiles;
+      };
+    } still)
+    (λ asks. c.session.ensures.complete p record {
+      command = compile name;
+      asks = asks;
+      smooth = record {
+        file = _;
+        known = record { known = refl; within = within; shelf = still };
+        is_file = is_file;
+        compiles = compiles;
+      };
+    } still)
 
 -- any presentation serves: nothing is asked of it
 pub returns-clause-example : goal.returns-clause-example
