@@ -1,6 +1,7 @@
-//! The files of `examples/`, word for word.
+//! The files of `examples/`, word for word, and a group of matrices.
 
 use super::fixtures::{FREE, HEISENBERG, INCONSISTENT, answered};
+use super::texts::MATRICES;
 use std::test::Fail;
 
 /// `examples/heis.queries`
@@ -77,9 +78,10 @@ const FREE_REPLIES: &str = "3 2 6 6 3\n\
     unknown 1\n";
 
 #[rattlefmt::skip]
-const EXAMPLES: [(&str, &str, &str); 3] = [
+const EXAMPLES: [(&str, &str, &str); 4] = [
     (HEISENBERG,   HEIS_QUERIES, HEIS_REPLIES),
     (FREE,         FREE_QUERIES, FREE_REPLIES),
+    (MATRICES,     "a3*a2*a1",   "1 1 1 -1 -1 0\n"),
     (INCONSISTENT, FREE_QUERIES, "inconsistent a3 a2 a1\n1 1 1 1 1\n1 1 1 1 0\n"),
 ];
 

@@ -23,7 +23,8 @@ fn over_free(alloc: Global, texts: &[&str]) -> Result<Ended, AllocError> {
     over(alloc, FREE, texts)
 }
 
-const MATRICES: &str = "nilpotent 1\ngenerators a1 a2 a3 a4 a5 a6\n[a2,a1] = a4^-1\n\
+/// The group of unitriangular matrices with four rows.
+pub(crate) const MATRICES: &str = "nilpotent 1\ngenerators a1 a2 a3 a4 a5 a6\n[a2,a1] = a4^-1\n\
     [a3,a2] = a5^-1\n[a4,a3] = a6\n[a5,a1] = a6^-1\n";
 
 /// Words, what a session writes, and the number of its status.
