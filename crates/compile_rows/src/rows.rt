@@ -1,6 +1,6 @@
 //! What compiles say.
 
-use super::saying::{said, summed_table, wants_memory};
+use super::saying::{powers_text, said, summed_table, wants_memory};
 use super::tables::{heisenberg, listed, steep, wide};
 use nil_propose::{Forgetful, Listed, Proposer};
 use std::alloc::Global;
@@ -77,6 +77,14 @@ fn a_summed_table_is_the_written_one(rt: HostRuntime) -> Result<(), Fail> {
     let row =
         r#"{"format":"hall table 1","generators":3,"level":1,"polynomials":[[["1","x1",1],["1","y1",1]],[["1","x2",1],["1","y2",1]],[["1","x3",1],["1","y3",1],["1","x2",1,"y1",1]]]}"#;
     assert_eq!(rt; text.as_str(), row);
+    Ok(())
+}
+
+// (a1^z1 a2^z2 a3^z3)^t, collected by hand.
+#[test]
+fn the_powers_of_a_vector(rt: HostRuntime) -> Result<(), Fail> {
+    let text = powers_text(rt.alloc(), HEIS)?;
+    assert_eq!(rt; text.as_str(), "z1*t\nz2*t\nz3*t + z1*z2*C(t,2)\n");
     Ok(())
 }
 

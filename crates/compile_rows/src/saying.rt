@@ -1,5 +1,6 @@
 //! What compiles say, as texts.
 
+use binom_poly::text;
 use compile_text::{Memory, compiled_text, inconsistent_text, wide_text};
 use hall_compile::{Outcome, compile};
 use nil_pres::Presentation;
@@ -7,6 +8,7 @@ use nil_propose::Proposer;
 use pres_text::read;
 use std::alloc::Global;
 use std::test::Fail;
+use sum_compiler::power_table;
 use table_json::write_table;
 
 /// The text of an outcome.
@@ -39,6 +41,21 @@ pub(crate) fn summed_table(alloc: Global, file: &str) -> Result<String, Fail> {
         Outcome::Compiled(compiled) => Ok(write_table(alloc, compiled.checked.table())?),
         _ => Err("not compiled")?,
     }
+}
+
+/// The powers of the table of a file, without a proposer.
+pub(crate) fn powers_text(alloc: Global, file: &str) -> Result<String, Fail> {
+    let pres = read(alloc, file.as_bytes())?;
+    let Outcome::Compiled(compiled) = compile(alloc, &pres, Vec::new(alloc))? else {
+        return Err("not compiled")?;
+    };
+    let powers = power_table(alloc, &compiled.checked)?;
+    let mut texts = String::new(alloc);
+    for power in &powers {
+        texts.push_str(text(alloc, power)?.as_str())?;
+        texts.push_str("\n")?;
+    }
+    Ok(texts)
 }
 
 /// Whether the compile of a file answers want of memory.

@@ -1,9 +1,8 @@
 //! The Heisenberg group.
 
-ghost use Rattle.std.specs.Prelude.{◌≡◌, None, length, IfOk};
-ghost use Rattle.central_table.specs.Central.{not_central};
+ghost use Rattle.std.specs.Prelude.{◌≡◌, length, IfOk};
 
-use central_table::{central_checked, first_outside};
+use super::compiling::compiled;
 use hall_table::Checked;
 use nil_pres::{Builder, Presentation, Syllable};
 use nil_word::Vector;
@@ -27,11 +26,7 @@ pub(crate) fn heisenberg(alloc: Global) -> Result<Checked, Fail>
     ensures names { IfOk result (λ c. length c.pres.names ≡ 3) }
     ensures level { IfOk result (λ c. c.table.level ≡ 1) }
 {
-    let pres = presentation(alloc)?;
-    if first_outside(&pres).is_some() {
-        return Err("not central")?;
-    }
-    Ok(central_checked(alloc, pres)?)
+    compiled(alloc, &presentation(alloc)?)
 }
 
 pub(crate) fn vector(alloc: Global, entries: [i64; 3]) -> Result<Vector, Fail>

@@ -3,6 +3,8 @@
 #![tactic(auto)]
 
 #[cfg(test)]
+mod compiling;
+#[cfg(test)]
 mod elements;
 #[cfg(test)]
 mod evaluation;

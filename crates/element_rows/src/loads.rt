@@ -2,8 +2,8 @@
 
 ghost use Rattle.std.specs.Prelude.{◌≡◌, IfOk};
 
+use super::compiling::compiled;
 use super::heisenberg::heisenberg;
-use central_table::{central_checked, first_outside};
 use hall_table::Checked;
 use load_tally::{Tally, tally};
 use nil_pres::{Builder, Presentation};
@@ -21,11 +21,7 @@ fn one_name(alloc: Global) -> Result<Presentation, Fail> {
 fn cyclic(alloc: Global) -> Result<Checked, Fail>
     ensures { IfOk result (λ c. c.table.level ≡ 1) }
 {
-    let pres = one_name(alloc)?;
-    if first_outside(&pres).is_some() {
-        return Err("not central")?;
-    }
-    Ok(central_checked(alloc, pres)?)
+    compiled(alloc, &one_name(alloc)?)
 }
 
 fn counted(alloc: Global, checked: Checked, queries: &[u8]) -> Result<Tally, Fail>

@@ -14,8 +14,6 @@ mod sum_fault;
 mod sum_place;
 mod sum_step;
 mod summing;
-#[cfg(test)]
-mod tests;
 
 pub use images::conjugate_powers;
 pub use levels::level_table;
