@@ -1,7 +1,7 @@
 -- The rows of a relation, and its two entries compared.
 --   t table · j < l and k m generators · rows rows · r result
 use Rattle.std.proofs.Common.{◌≡◌, ◌≢◌, ℕ, ◌<◌, ◌≤◌, Bool, true, false, List, [], ◌∷◌, sym, ap, ◌∙◌, subst, arith, rules, inl, inr}
-use Rattle.std.specs.Prelude.{Result, Ok, Err, OnOk}
+use Rattle.std.specs.Prelude.{Result, Ok, Err, OnOk, OnErr}
 use Rattle.std.specs.Result.{IsOk}
 use Rattle.std.proofs.lemmas.Bool.{false≢true}
 use Rattle.std.proofs.lemmas.Bool.Decides.{eqb_tells}
@@ -22,7 +22,7 @@ use Rattle.identity_check.specs.declared.identity.Identity.TheVariants.{Relation
 use Rattle.identity_check.specs.declared.failure.Failure.{Failure}
 use Rattle.identity_check.specs.Sides.{unit_vector, entry_of_unit, entry_of_pair, left_of, right_of}
 use Rattle.identity_check.specs.Overflowing.{SidesOverflow}
-use Rattle.identity_check.specs.Pairs.{PutPair}
+use Rattle.identity_check.specs.Pairs.{PutPair, AreZero, AreZeroBut}
 use Rattle.identity_check.specs.Events.Event.{tries}
 use Rattle.identity_check.specs.Failures.{parts_of, FailsFirst, OverflowsFirst}
 use Rattle.identity_check.proofs.Agreeing.{bounds_of, IsOf, AgreeOn, value-agree_on, point-x, point-y, entry-single_same, entry-single_other}
@@ -76,6 +76,34 @@ pair_put t j l rows mid new h oj ol zeros wl wj e f =
             ∙ sym (entry-single_other (last_of t) j m (pos 1) (omega arith) (omega arith) n))
       ];
     }
+
+pub others_put : (j l : ℕ) (rows mid new : List Reading) → ((v : ℕ) → value_at rows v ≡ pos 0)
+    → mid ≡ with_value rows l (pos 1) → new ≡ with_value mid (y_of j) (pos 1) → AreZeroBut new j l
+others_put j l rows mid new zeros e f = λ v x y.
+    value-other mid new (y_of j) v (pos 1) y f ∙ value-other rows mid l v (pos 1) x e ∙ zeros v
+
+pub zeros_cleared : (j l : ℕ) (rows mid new : List Reading) → AreZeroBut rows j l
+    → 0 < width_at rows l → 0 < width_at mid (y_of j) → mid ≡ with_value rows l (pos 0)
+    → new ≡ with_value mid (y_of j) (pos 0) → AreZero new
+zeros_cleared j l rows mid new others wl wj e f = λ v. elim (eqb_tells v (y_of j)) [
+  | inl same ↦
+      subst (λ (u : ℕ). value_at new u ≡ pos 0) (sym same.1)
+      (value-same mid new (y_of j) (pos 0) wj f)
+  | inr y ↦
+      value-other mid new (y_of j) v (pos 0) y.1 f ∙ elim (eqb_tells v l) [
+        | inl same ↦
+            subst (λ (u : ℕ). value_at mid u ≡ pos 0) (sym same.1)
+            (value-same rows mid l (pos 0) wl e)
+        | inr x ↦ value-other rows mid l v (pos 0) x.1 e ∙ others v x.1 y.1
+      ]
+]
+
+-- put or refused, the value is 0
+pub zero_set : {A E : Type 0} (r : Result A E) (rows new : List Reading) (v : ℕ)
+    → OnOk r (new ≡ with_value rows v (pos 0)) → OnErr r (new ≡ with_value rows v (pos 0))
+    → new ≡ with_value rows v (pos 0)
+zero_set (Ok x) rows new v h g = h
+zero_set (Err x) rows new v h g = g
 
 -- ---- the two entries
 agree_put : (t : Tabled) (j l : ℕ) (rows : List Reading) → IsTabled t → PutPair t rows j l

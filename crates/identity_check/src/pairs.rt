@@ -1,6 +1,6 @@
 //! The relations, as identities between numbers.
 
-ghost use Rattle.std.specs.Prelude.{◌≡◌, ◌<◌, ◌≤◌, [], ◌∷◌, length, pos, unsigned_abs, IfOk};
+ghost use Rattle.std.specs.Prelude.{◌≡◌, ◌<◌, ◌≤◌, [], ◌∷◌, length, unsigned_abs, OnOk};
 ghost use Rattle.nil_num.specs.Bound.{IsNumber};
 ghost use Rattle.nil_word.specs.Exponents.{one_at};
 ghost use Rattle.nil_pres.specs.Relations.{relations_of};
@@ -8,7 +8,7 @@ ghost use Rattle.hall_table.specs.Tabled.{last_of};
 ghost use Rattle.hall_table.specs.Width.{HasRows};
 ghost use Rattle.identity_check.specs.declared.identity.Identity.{Identity};
 ghost use Rattle.identity_check.specs.Sides.{xs, entry_of_pair};
-ghost use Rattle.identity_check.specs.Pairs.{PutPair, exponent_in};
+ghost use Rattle.identity_check.specs.Pairs.{PutPair, AreZero, AreZeroBut, exponent_in};
 ghost use Rattle.identity_check.specs.Events.{at_each};
 ghost use Rattle.identity_check.specs.Events.Event.{tries};
 ghost use Rattle.identity_check.specs.Halts.{WalksIn};
@@ -16,7 +16,7 @@ ghost use Rattle.identity_check.specs.Halts.{WalksIn};
 use crate::failure::Failure;
 use crate::halt::Halt;
 use crate::identity::Identity;
-use binom_poly::{Memory, Rows};
+use binom_poly::Rows;
 use hall_table::Table;
 use nil_pres::{Presentation, Syllable};
 use std::alloc::Global;
@@ -55,19 +55,36 @@ fn entry_of_pair(pres: &Presentation, j: u32, l: u32, k: u32) -> i128
     exponent + one_at(k, l) + one_at(k, j)
 }
 
-/// Rows of a table with the unit vectors of two generators as values.
-fn put_pair(alloc: Global, table: &Table, j: u32, l: u32) -> Result<Rows, Memory>
+/// Puts the unit vectors of two generators as values.
+fn put_pair(table: &Table, rows: &mut Rows, j: u32, l: u32)
     requires first { table.now.level ≤ j }
     requires below { j < l }
     requires last { l ≤ last_of table.now }
-    ensures rows { IfOk result (λ rows. HasRows table.now rows) }
-    ensures put { IfOk result (λ rows. PutPair table.now rows j l) }
+    requires rows { HasRows table.now rows.old }
+    requires zeros { AreZero rows.old }
+    ensures rows { HasRows table.now rows.new }
+    ensures put { PutPair table.now rows.new j l }
+    ensures others { AreZeroBut rows.new j l }
 {
     let _ = table.last();
-    let mut rows = table.rows(alloc)?;
-    table.set_x(&mut rows, l, 1).unwrap();
-    table.set_y(&mut rows, j, 1).unwrap();
-    Ok(rows)
+    table.set_x(rows, l, 1).unwrap();
+    table.set_y(rows, j, 1).unwrap();
+}
+
+/// Puts 0 where the unit vectors of two generators were put.
+fn clear_pair(table: &Table, rows: &mut Rows, j: u32, l: u32)
+    requires first { table.now.level ≤ j }
+    requires below { j < l }
+    requires last { l ≤ last_of table.now }
+    requires rows { HasRows table.now rows.old }
+    requires others { AreZeroBut rows.old j l }
+    ensures rows { HasRows table.now rows.new }
+    ensures zeros { AreZero rows.new }
+{
+    let _ = table.last();
+    // A refusal leaves 0 too.
+    let _ = table.set_x(rows, l, 0);
+    let _ = table.set_y(rows, j, 0);
 }
 
 /// Tries the relation of two generators at one entry.
@@ -113,6 +130,7 @@ pub fn relations(
     alloc: Global,
     pres: &Presentation,
     table: &Table,
+    rows: &mut Rows,
     j: u32,
     l: u32,
 ) -> Result<(), Halt>
@@ -120,12 +138,17 @@ pub fn relations(
     requires first { table.now.level ≤ j }
     requires below { j < l }
     requires last { l ≤ last_of table.now }
-    ensures { WalksIn (relations_of pres.now) table.now
+    requires rows { HasRows table.now rows.old }
+    requires zeros { AreZero rows.old }
+    ensures walks { WalksIn (relations_of pres.now) table.now
         (at_each (xs table.now) (λ k. tries (Identity.Relation j l k))) result }
+    ensures rows { HasRows table.now rows.new }
+    ensures zeros { OnOk result (AreZero rows.new) }
 {
-    let rows = put_pair(alloc, table, j, l)?;
+    put_pair(table, rows, j, l);
     for k in table.level()..table.last() + 1 {
-        relation(alloc, pres, table, &rows, j, l, k)?;
+        relation(alloc, pres, table, rows, j, l, k)?;
     }
+    clear_pair(table, rows, j, l);
     Ok(())
 }

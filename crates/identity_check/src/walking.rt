@@ -1,20 +1,23 @@
 //! The walk over all identities, in their written order.
 
-ghost use Rattle.std.specs.Prelude.{◌≡◌, ◌≤◌, length};
+ghost use Rattle.std.specs.Prelude.{◌≡◌, ◌≤◌, length, OnOk};
 ghost use Rattle.std.specs.List.{flat_map};
 ghost use Rattle.nil_pres.specs.Relations.{relations_of};
 ghost use Rattle.poly_subst.specs.Walk.{in_x};
 ghost use Rattle.hall_table.specs.Tabled.{last_of, poly_at};
 ghost use Rattle.hall_table.specs.Order.{generators};
+ghost use Rattle.hall_table.specs.Width.{HasRows};
 ghost use Rattle.identity_check.specs.Sides.{xs};
 ghost use Rattle.identity_check.specs.Events.{events, last_events, relation_events, step_events};
 ghost use Rattle.identity_check.specs.Halts.{Walks, WalksIn};
+ghost use Rattle.identity_check.specs.Pairs.{AreZero};
 
 use crate::halt::Halt;
 use crate::last_letters::last_letters;
 use crate::pairs::relations;
 use crate::steps::{put_x, steps};
 use crate::units::{units_left, units_right};
+use binom_poly::Rows;
 use hall_table::Table;
 use nil_pres::Presentation;
 use poly_subst::Substitution;
@@ -64,16 +67,26 @@ fn all_steps(alloc: Global, table: &Table) -> Result<(), Halt>
 }
 
 /// Tries the relations of a generator and each later one.
-fn later_relations(alloc: Global, pres: &Presentation, table: &Table, j: u32) -> Result<(), Halt>
+fn later_relations(
+    alloc: Global,
+    pres: &Presentation,
+    table: &Table,
+    rows: &mut Rows,
+    j: u32,
+) -> Result<(), Halt>
     requires names { last_of table.now ≡ length pres.now.names }
     requires least { table.now.level ≤ j }
     requires most { j ≤ last_of table.now }
-    ensures { WalksIn (relations_of pres.now) table.now
+    requires rows { HasRows table.now rows.old }
+    requires zeros { AreZero rows.old }
+    ensures walks { WalksIn (relations_of pres.now) table.now
         (relation_events (xs table.now) (last_of table.now) j) result }
+    ensures rows { HasRows table.now rows.new }
+    ensures zeros { OnOk result (AreZero rows.new) }
 {
     let end = table.last() + 1;
     for l in j + 1..end {
-        relations(alloc, pres, table, j, l)?;
+        relations(alloc, pres, table, rows, j, l)?;
     }
     Ok(())
 }
@@ -84,8 +97,9 @@ fn all_relations(alloc: Global, pres: &Presentation, table: &Table) -> Result<()
     ensures { WalksIn (relations_of pres.now) table.now
         (flat_map (relation_events (xs table.now) (last_of table.now)) (xs table.now)) result }
 {
+    let mut rows = table.rows(alloc)?;
     for j in table.level()..table.last() + 1 {
-        later_relations(alloc, pres, table, j)?;
+        later_relations(alloc, pres, table, &mut rows, j)?;
     }
     Ok(())
 }
