@@ -4,12 +4,13 @@ use Rattle.std.specs.List.{IsDistinct, AllByRecursion}
 use Rattle.std.proofs.lemmas.Slice.Eq.{bytes_eq-Decides}
 use Rattle.reply_memo.specs.Kept.{Kept, lines_of, is_of, kept_for, of_line, without, in_front, AreApart}
 
--- what holds of the lines of some pairs holds of those of fewer and of more pairs
 module _ (P : List ℕ → Type 0) where
+  -- each line of the pairs meets P
   abbrev pub AllLines : List Kept → Type 0
   AllLines pairs = AllByRecursion P (lines_of pairs)
 
-  pub AllLines-filter : (p : Kept → Bool) (pairs : List Kept) → AllLines pairs → AllLines (filter p pairs)
+  AllLines-filter : (p : Kept → Bool) (pairs : List Kept) → AllLines pairs
+      → AllLines (filter p pairs)
   AllLines-filter p [] all = tt
   AllLines-filter p (k ∷ pairs) all =
       elim (p k) as (λ b. AllLines (cond b (k ∷ filter p pairs) (filter p pairs))) [
@@ -17,34 +18,15 @@ module _ (P : List ℕ → Type 0) where
         | false ↦ AllLines-filter p pairs all.1
       ]
 
-  pub AllLines-take : (n : ℕ) (pairs : List Kept) → AllLines pairs → AllLines (take n pairs)
+  AllLines-take : (n : ℕ) (pairs : List Kept) → AllLines pairs → AllLines (take n pairs)
   AllLines-take zero pairs all = tt
   AllLines-take (suc n) [] all = tt
   AllLines-take (suc n) (k ∷ pairs) all = (all.0, AllLines-take n pairs all.1)
 
-  pub AllLines-append : (front rest : List Kept) → AllLines front → AllLines rest → AllLines (front ++ rest)
+  AllLines-append : (front rest : List Kept) → AllLines front → AllLines rest
+      → AllLines (front ++ rest)
   AllLines-append [] rest all more = more
   AllLines-append (k ∷ front) rest all more = (all.0, AllLines-append front rest all.1 more)
-
-pub AreApart-filter : (p : Kept → Bool) (pairs : List Kept) → AreApart pairs → AreApart (filter p pairs)
-unfolding IsDistinct
-AreApart-filter p [] apart = tt
-AreApart-filter p (k ∷ pairs) apart =
-    elim (p k) as (λ b. AreApart (cond b (k ∷ filter p pairs) (filter p pairs))) [
-      | true ↦ (AllLines-filter (λ l. bytes_eq k.line l ≡ false) p pairs apart.0, AreApart-filter p pairs apart.1)
-      | false ↦ AreApart-filter p pairs apart.1
-    ]
-
-pub AreApart-take : (n : ℕ) (pairs : List Kept) → AreApart pairs → AreApart (take n pairs)
-unfolding IsDistinct
-AreApart-take zero pairs apart = tt
-AreApart-take (suc n) [] apart = tt
-AreApart-take (suc n) (k ∷ pairs) apart =
-    (AllLines-take (λ l. bytes_eq k.line l ≡ false) n pairs apart.0, AreApart-take n pairs apart.1)
-
-pub AreApart-tail : (k : Kept) (pairs : List Kept) → AreApart (k ∷ pairs) → AreApart pairs
-unfolding IsDistinct
-AreApart-tail k pairs apart = apart.1
 
 module _ (line : List ℕ) where
   -- no pair has the line
@@ -66,47 +48,84 @@ module _ (line : List ℕ) where
   pub NoneOf-without : (pairs : List Kept) → NoneOf (without line pairs)
   NoneOf-without [] = tt
   NoneOf-without (k ∷ pairs) =
-      (elim (is_of line k) as (λ b. is_of line k ≡ b → NoneOf (cond (not b) (k ∷ without line pairs) (without line pairs))) [
+      let others = without line pairs in
+      (elim (is_of line k) as (λ b. is_of line k ≡ b → NoneOf (cond (not b) (k ∷ others) others)) [
         | true ↦ λ same. NoneOf-without pairs
         | false ↦ λ other. (other, NoneOf-without pairs)
       ]) refl
 
-  pub AllOf-of_line : (pairs : List Kept) → AllOf (of_line line pairs)
+  AllOf-of_line : (pairs : List Kept) → AllOf (of_line line pairs)
   AllOf-of_line [] = tt
   AllOf-of_line (k ∷ pairs) =
-      (elim (is_of line k) as (λ b. is_of line k ≡ b → AllOf (cond b (k ∷ of_line line pairs) (of_line line pairs))) [
+      let front = of_line line pairs in
+      (elim (is_of line k) as (λ b. is_of line k ≡ b → AllOf (cond b (k ∷ front) front)) [
         | true ↦ λ same. (same, AllOf-of_line pairs)
         | false ↦ λ other. AllOf-of_line pairs
       ]) refl
 
-  -- after a pair of the line come no more of it
-  pub NoneOf-after : (k : Kept) (pairs : List Kept) → is_of line k ≡ true → AreApart (k ∷ pairs) → NoneOf pairs
-  unfolding IsDistinct
-  NoneOf-after k pairs same apart =
-      subst (λ l. AllLines (λ m. bytes_eq l m ≡ false) pairs) (sym ((bytes_eq-Decides line k.line).0 same)) apart.0
-
-  AreApart-join : (front rest : List Kept) → AllOf front → AreApart front → NoneOf rest → AreApart rest → AreApart (front ++ rest)
-  unfolding IsDistinct
-  AreApart-join [] rest all apart none others = others
-  AreApart-join (k ∷ front) rest all apart none others =
-      let none' : AllLines (λ m. bytes_eq k.line m ≡ false) rest = subst (λ l. AllLines (λ m. bytes_eq l m ≡ false) rest) ((bytes_eq-Decides line k.line).0 all.0) none in
-      (AllLines-append (λ m. bytes_eq k.line m ≡ false) front rest apart.0 none', AreApart-join front rest all.1 apart.1 none others)
-
-  pub AreApart-in_front : (pairs : List Kept) → AreApart pairs → AreApart (in_front line pairs)
-  AreApart-in_front pairs apart =
-      AreApart-join (of_line line pairs) (without line pairs) (AllOf-of_line pairs)
-      (AreApart-filter (is_of line) pairs apart) (NoneOf-without pairs)
-      (AreApart-filter (λ k. not (is_of line k)) pairs apart)
-
-  pub NoneOf-kept_for : (pairs : List Kept) → is_some (kept_for line pairs) ≡ false → NoneOf pairs
+  -- no pair has the line that is asked for where no reply is found
+  NoneOf-kept_for : (pairs : List Kept) → is_some (kept_for line pairs) ≡ false → NoneOf pairs
   NoneOf-kept_for [] none = tt
   NoneOf-kept_for (k ∷ pairs) none =
       (elim (is_of line k) as (λ b. is_of line k ≡ b → NoneOf (k ∷ pairs)) [
-        | true ↦ λ same. let none' = rw same at none in cc
+        | true ↦ λ same. let found = rw same at none in cc
         | false ↦ λ other. (other, NoneOf-kept_for pairs (rw other at none))
       ]) refl
 
-  pub in_front-none : (pairs : List Kept) → is_some (kept_for line pairs) ≡ false → in_front line pairs ≡ pairs
+  pub in_front-none : (pairs : List Kept) → is_some (kept_for line pairs) ≡ false
+      → in_front line pairs ≡ pairs
   in_front-none pairs none =
       let off = NoneOf-kept_for pairs none in
       ap (λ l. l ++ without line pairs) (of_line-none pairs off) ∙ without-none pairs off
+
+-- the same of a line and of one that is equal to it
+NoneOf-same : (l m : List ℕ) (pairs : List Kept) → bytes_eq l m ≡ true → NoneOf l pairs
+    → NoneOf m pairs
+NoneOf-same l m pairs same none =
+    subst (λ n. NoneOf n pairs) ((bytes_eq-Decides l m).0 same) none
+
+pub AreApart-tail : (k : Kept) (pairs : List Kept) → AreApart (k ∷ pairs) → AreApart pairs
+unfolding IsDistinct
+AreApart-tail k pairs apart = apart.1
+
+-- after a pair of the line come no more of it
+pub NoneOf-after : (line : List ℕ) (k : Kept) (pairs : List Kept) → is_of line k ≡ true
+    → AreApart (k ∷ pairs) → NoneOf line pairs
+unfolding IsDistinct
+NoneOf-after line k pairs same apart =
+    subst (λ l. NoneOf l pairs) (sym ((bytes_eq-Decides line k.line).0 same)) apart.0
+
+pub AreApart-filter : (p : Kept → Bool) (pairs : List Kept) → AreApart pairs
+    → AreApart (filter p pairs)
+unfolding IsDistinct
+AreApart-filter p [] apart = tt
+AreApart-filter p (k ∷ pairs) apart =
+    let rest = AreApart-filter p pairs apart.1 in
+    elim (p k) as (λ b. AreApart (cond b (k ∷ filter p pairs) (filter p pairs))) [
+      | true ↦ (AllLines-filter (λ l. bytes_eq k.line l ≡ false) p pairs apart.0, rest)
+      | false ↦ rest
+    ]
+
+pub AreApart-take : (n : ℕ) (pairs : List Kept) → AreApart pairs → AreApart (take n pairs)
+unfolding IsDistinct
+AreApart-take zero pairs apart = tt
+AreApart-take (suc n) [] apart = tt
+AreApart-take (suc n) (k ∷ pairs) apart =
+    (AllLines-take (λ l. bytes_eq k.line l ≡ false) n pairs apart.0, AreApart-take n pairs apart.1)
+
+AreApart-append : (line : List ℕ) (front rest : List Kept) → AllOf line front → AreApart front
+    → NoneOf line rest → AreApart rest → AreApart (front ++ rest)
+unfolding IsDistinct
+AreApart-append line [] rest all apart none others = others
+AreApart-append line (k ∷ front) rest all apart none others =
+    let none' = NoneOf-same line k.line rest all.0 none in (
+      AllLines-append (λ l. bytes_eq k.line l ≡ false) front rest apart.0 none',
+      AreApart-append line front rest all.1 apart.1 none others,
+    )
+
+pub AreApart-in_front : (line : List ℕ) (pairs : List Kept) → AreApart pairs
+    → AreApart (in_front line pairs)
+AreApart-in_front line pairs apart =
+    AreApart-append line (of_line line pairs) (without line pairs) (AllOf-of_line line pairs)
+    (AreApart-filter (is_of line) pairs apart) (NoneOf-without line pairs)
+    (AreApart-filter (λ k. not (is_of line k)) pairs apart)

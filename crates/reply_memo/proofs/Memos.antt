@@ -1,5 +1,5 @@
 -- What is kept stays within its room, of different lines.
-use Rattle.std.proofs.Common.{◌≡◌, ℕ, ◌+◌, ◌≤◌, min, not, List, [], ◌∷◌, ◌++◌, length, take, filter, refl, arith, length-append}
+use Rattle.std.proofs.Common.{◌≡◌, ℕ, ◌≤◌, min, not, List, [], ◌∷◌, length, take, refl, arith, length-append}
 use Rattle.std.specs.List.{IsDistinct}
 use Rattle.std.proofs.lemmas.List.{length-take}
 use Rattle.std.proofs.lemmas.List.Filters.{length-filter_both}
@@ -12,26 +12,37 @@ pub IsMemo-nil : IsMemo []
 unfolding IsDistinct
 IsMemo-nil = record { few = omega arith; apart = tt }
 
-pub length-in_front : (line : List ℕ) (pairs : List Kept) → length (in_front line pairs) ≡ length pairs
-length-in_front line pairs =
-    omega (arith, length-append (of_line line pairs) (without line pairs), length-filter_both (is_of line) (λ k. not (is_of line k)) (λ k. refl) pairs)
+module _ (line : List ℕ) (pairs : List Kept) where
+  length-in_front : length (in_front line pairs) ≡ length pairs
+  length-in_front =
+      omega (
+        arith,
+        length-append (of_line line pairs) (without line pairs),
+        length-filter_both (is_of line) (λ k. not (is_of line k)) (λ k. refl) pairs,
+      )
 
-pub IsMemo-in_front : (line : List ℕ) (pairs : List Kept) → IsMemo pairs → IsMemo (in_front line pairs)
-IsMemo-in_front line pairs memo = record {
-  few = omega (arith, length-in_front line pairs, memo.few);
-  apart = AreApart-in_front line pairs memo.apart;
-}
+  pub IsMemo-in_front : IsMemo pairs → IsMemo (in_front line pairs)
+  IsMemo-in_front memo = record {
+    few = omega (arith, length-in_front, memo.few);
+    apart = AreApart-in_front line pairs memo.apart;
+  }
 
-AreApart-kept : (line reply : List ℕ) (pairs : List Kept) → AreApart pairs → AreApart (kept line reply ∷ without line pairs)
-unfolding IsDistinct
-AreApart-kept line reply pairs apart =
-    (NoneOf-without line pairs, AreApart-filter (λ k. not (is_of line k)) pairs apart)
+  AreApart-cons : (reply : List ℕ) → AreApart pairs
+      → AreApart (kept line reply ∷ without line pairs)
+  unfolding IsDistinct
+  AreApart-cons reply apart =
+      (NoneOf-without line pairs, AreApart-filter (λ k. not (is_of line k)) pairs apart)
 
-length-take-le_room : (pairs : List Kept) → length (take room pairs) ≤ room
-length-take-le_room pairs = omega (arith, length-take room pairs)
+  length-after_keeping : (reply : List ℕ) → length (after_keeping line reply pairs) ≤ room
+  length-after_keeping reply =
+      let all = kept line reply ∷ without line pairs in
+      let taken : length (take room all) ≡ min room (length all) = length-take room all in
+      omega arith
 
-pub IsMemo-after_keeping : (line reply : List ℕ) (pairs : List Kept) → IsMemo pairs → IsMemo (after_keeping line reply pairs)
-IsMemo-after_keeping line reply pairs memo = record {
-  few = length-take-le_room (kept line reply ∷ without line pairs);
-  apart = AreApart-take room (kept line reply ∷ without line pairs) (AreApart-kept line reply pairs memo.apart);
-}
+  pub IsMemo-after_keeping : (reply : List ℕ) → IsMemo pairs
+      → IsMemo (after_keeping line reply pairs)
+  IsMemo-after_keeping reply memo = record {
+    few = length-after_keeping reply;
+    apart =
+        AreApart-take room (kept line reply ∷ without line pairs) (AreApart-cons reply memo.apart);
+  }

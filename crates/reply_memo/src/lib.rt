@@ -5,9 +5,8 @@
 mod answers;
 pub mod laws;
 mod room;
+#[cfg(test)]
+mod tests;
 
 pub use answers::Answers;
 pub use room::ROOM;
-
-#[cfg(test)]
-mod tests;

@@ -9,23 +9,30 @@ use Rattle.reply_memo.proofs.answers.Answers.find.Goals as goal
 pub invariant_of-self : goal.invariant_of-self
 invariant_of-self c =
     let es = c.self.inside.cache.entries in
+    let memo = c.self.invariant.0 in
+    let line = c.args.line.now in
+    let new = pairs_of-promoted line es memo.apart in
     rw c.promote.ensures.entries
-    (subst IsMemo (sym (pairs_of-promoted c.args.line.now es c.self.invariant.0.apart)) (IsMemo-in_front c.args.line.now (pairs_of es) c.self.invariant.0), c.self.invariant.1)
+    (subst IsMemo (sym new) (IsMemo-in_front line (pairs_of es) memo), c.self.invariant.1)
 
 pub returns-clause-found : goal.returns-clause-found
 returns-clause-found c =
-    rw (← c.self.view_is) (c.promote.ensures.value ∙ sym (is_some-kept_for c.args.line.now c.self.inside.cache.entries))
+    rw (← c.self.view_is)
+    (c.promote.ensures.value ∙ sym (is_some-kept_for c.args.line.now c.self.inside.cache.entries))
 
 pub returns-clause-pairs : goal.returns-clause-pairs
 returns-clause-pairs c =
-    rw (c.promote.ensures.entries, ← c.self.view_is) (pairs_of-promoted c.args.line.now c.self.inside.cache.entries c.self.invariant.0.apart)
+    rw (c.promote.ensures.entries, ← c.self.view_is)
+    (pairs_of-promoted c.args.line.now c.self.inside.cache.entries c.self.invariant.0.apart)
 
+-- without a pair of the line none is brought to the front
 pub returns-clause-same : goal.returns-clause-same
 returns-clause-same c = λ none.
     let es = c.self.inside.cache.entries in
-    let off = is_some-kept_for c.args.line.now es ∙ sym c.promote.ensures.value ∙ none in
+    let line = c.args.line.now in
+    let off = is_some-kept_for line es ∙ sym c.promote.ensures.value ∙ none in
     rw (c.promote.ensures.entries, ← c.self.view_is)
-    (pairs_of-promoted c.args.line.now es c.self.invariant.0.apart ∙ in_front-none c.args.line.now (pairs_of es) off)
+    (pairs_of-promoted line es c.self.invariant.0.apart ∙ in_front-none line (pairs_of es) off)
 
 pub returns-clause-memo : goal.returns-clause-memo
 returns-clause-memo c = (invariant_of-self c).0
