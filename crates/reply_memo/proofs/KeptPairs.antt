@@ -41,10 +41,11 @@ module _ (R : List ℕ → List ℕ → Type 0) where
   pub AllKept-nil : AllKept R []
   AllKept-nil = All-nil (λ k. R k.line k.reply)
 
-module _ (R : List ℕ → List ℕ → Type 0) (line reply : List ℕ) where
-  pub AllKept-in_front : (pairs : List Kept) → AllKept R pairs → AllKept R (in_front line pairs)
-  AllKept-in_front = All-in_front (λ k. R k.line k.reply) line
+  pub AllKept-in_front : (line : List ℕ) (pairs : List Kept) → AllKept R pairs
+      → AllKept R (in_front line pairs)
+  AllKept-in_front = All-in_front (λ k. R k.line k.reply)
 
+module _ (R : List ℕ → List ℕ → Type 0) (line reply : List ℕ) where
   pub AllKept-after_keeping : (pairs : List Kept) → R line reply → AllKept R pairs
       → AllKept R (after_keeping line reply pairs)
   AllKept-after_keeping = All-after_keeping (λ k. R k.line k.reply) line reply
