@@ -1,0 +1,4 @@
+pub mod Cached
+pub mod KeptPairs
+pub mod Lines
+pub mod Memos
