@@ -140,19 +140,19 @@ forest_of_front n ns h =
     (h.within, forest_enough (length (take n.below ns)) (length ns) (take n.below ns) (omega arith) (omega arith) h.below, forest_enough (length (drop n.below ns)) (length ns) (drop n.below ns) (omega arith) (omega arith) h.next)
 
 -- ---- a branch
-one-mul : (z : ℤ) → z *ℤ pos 1 ≡ z
-one-mul z = *ℤ_comm z (pos 1) ∙ one-mul_ℤ z
+pub mul-one : (z : ℤ) → z *ℤ pos 1 ≡ z
+mul-one z = *ℤ_comm z (pos 1) ∙ one-mul_ℤ z
 
-sum_swap : (m n : ℕ) → m + n ≡ n + m
+pub sum_swap : (m n : ℕ) → m + n ≡ n + m
 sum_swap m n = omega arith
 
 pub value_branch : (a : ℕ → ℤ) (n : Node) (ts : List Term) → value_of a (branch_terms n ts) ≡ choose (a n.part.var) n.part.exp *ℤ (value_of a ts +ℤ n.coefficient)
 unfolding value_of monomial_value
-value_branch a n ts = value-under a n.part (own_term n ∷ ts) ∙ ap (λ z. choose (a n.part.var) n.part.exp *ℤ z) (ap (λ z. z +ℤ value_of a ts) (one-mul n.coefficient) ∙ +ℤ_comm n.coefficient (value_of a ts))
+value_branch a n ts = value-under a n.part (own_term n ∷ ts) ∙ ap (λ z. choose (a n.part.var) n.part.exp *ℤ z) (ap (λ z. z +ℤ value_of a ts) (mul-one n.coefficient) ∙ +ℤ_comm n.coefficient (value_of a ts))
 
 pub magnitude_branch : (a : ℕ → ℤ) (n : Node) (ts : List Term) → magnitude_of a (branch_terms n ts) ≡ unsigned_abs (choose (a n.part.var) n.part.exp) * (magnitude_of a ts + unsigned_abs n.coefficient)
 unfolding magnitude_of monomial_value
-magnitude_branch a n ts = magnitude-under a n.part (own_term n ∷ ts) ∙ ap (λ z. unsigned_abs (choose (a n.part.var) n.part.exp) * z) (ap (λ z. unsigned_abs z + magnitude_of a ts) (one-mul n.coefficient) ∙ sum_swap (unsigned_abs n.coefficient) (magnitude_of a ts))
+magnitude_branch a n ts = magnitude-under a n.part (own_term n ∷ ts) ∙ ap (λ z. unsigned_abs (choose (a n.part.var) n.part.exp) * z) (ap (λ z. unsigned_abs z + magnitude_of a ts) (mul-one n.coefficient) ∙ sum_swap (unsigned_abs n.coefficient) (magnitude_of a ts))
 
 none : (m : ℕ) → 0 * m ≡ 0
 none m = omega arith

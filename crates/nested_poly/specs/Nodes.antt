@@ -5,13 +5,15 @@
 --   terms_within k ns     the terms of nodes, of which there are at most k: one for each node, whose
 --                         coefficient may be 0
 --   terms_of ns           the same, however many there are
+--   constant_term c       the constant c as a term
+--   nested_terms c ns     that term and those of the nodes
 --   IsForestWithin k ns, IsForest ns
 --                         no node counts more nodes below it than there are
 --   IsWeighed w           the value is within the magnitude, and that within the greatest number
 --   Weighs a ts result    the value of the terms at a and their magnitude; refused exactly where the
 --                         latter overflows
 --   IsNestOf n p          the terms n have the values, the magnitudes and the rows of p
--- p part · t term · ts terms · n node · ns nodes · k count · a point
+-- p part · c coefficient · t term · ts terms · n node · ns nodes · k count · a point
 use Rattle.std.specs.Prelude.{◌≡◌, ◌≤◌, ℕ, List, [], ◌∷◌, ◌++◌, ℤ, length, Result, MatchResult, unsigned_abs}
 use Rattle.std.proofs.Common.{zero, suc, take, drop}
 use Rattle.nil_num.specs.Bound.{Fits, Overflows}
@@ -43,6 +45,12 @@ terms_within (suc k) (n ∷ ns) =
 
 abbrev pub terms_of : List Node → List Term
 terms_of ns = terms_within (length ns) ns
+
+abbrev pub constant_term : ℤ → Term
+constant_term c = record { monomial = []; coefficient = c }
+
+abbrev pub nested_terms : ℤ → List Node → List Term
+nested_terms c ns = constant_term c ∷ terms_of ns
 
 unfoldable pub IsForestWithin : ℕ → List Node → Type 0
 IsForestWithin zero ns = Unit {0}

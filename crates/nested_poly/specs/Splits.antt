@@ -2,11 +2,11 @@
 --   terms_by p c bs os    the term c p, the tails bs below the part p, and the tails os
 --   split_terms s         the terms of a split
 --   parts_left s          how many parts its tails have
---   HaveParts s           each of its tails has a part
+--   HavePartsLeft s           each of its tails has a part
 --   Adds old new t        new has the terms of old and t
 --   IsSplitOf s ts        s has the terms of ts, and fewer parts are left in it
 -- p part · c coefficient · bs os ts tails · s old new splits · t tail
-use Rattle.std.specs.Prelude.{◌≡◌, ◌≤◌, ℕ, ◌+◌, ◌<◌, List, [], ◌∷◌, ◌++◌, ℤ, ◌+ℤ◌, length, All}
+use Rattle.std.specs.Prelude.{◌≡◌, ◌≤◌, ℕ, ◌+◌, ◌<◌, List, [], ◌∷◌, ◌++◌, ℤ, pos, ◌+ℤ◌, length, All}
 use Rattle.std.proofs.Common.{get_or}
 use Rattle.binom_poly.specs.declared.term.Term.{Term}
 use Rattle.binom_poly.specs.declared.part.Part.{Part}
@@ -28,7 +28,7 @@ split_terms s = terms_by s.part s.coefficient s.below.items s.others.items
 abbrev pub parts_left : Split → ℕ
 parts_left s = parts_in s.below.items + parts_in s.others.items
 
-pub record HaveParts (s : Split) : Type 0 where
+pub record HavePartsLeft (s : Split) : Type 0 where
   pub below : All HasPart s.below.items
   pub others : All HasPart s.others.items
 
@@ -41,12 +41,12 @@ pub record Adds (old new : Split) (t : Tail) : Type 0 where
   pub covers : (rows : List Reading) → old.part.exp < width_at rows old.part.var
       → IsCovered rows (split_terms old) → IsCovered rows (tail_terms (t ∷ []))
       → IsCovered rows (split_terms new)
-  pub form : HaveParts old → HaveParts new
+  pub form : HavePartsLeft old → HavePartsLeft new
   pub parts : parts_left new ≤ parts_left old + length t.parts.now
-  pub fewer : get_or t.parts.now 0 old.part ≡ old.part
+  pub fewer : old.coefficient ≡ pos 0 → get_or t.parts.now 0 old.part ≡ old.part
       → parts_left new + 1 ≤ parts_left old + length t.parts.now
 
 pub record IsSplitOf (s : Split) (ts : List Tail) : Type 0 where
   pub nest : IsNestOf (split_terms s) (tail_terms ts)
-  pub form : HaveParts s
+  pub form : HavePartsLeft s
   pub fewer : parts_left s + 1 ≤ parts_in ts

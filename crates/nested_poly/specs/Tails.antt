@@ -1,11 +1,11 @@
 -- What terms have below some parts, and their nodes.
---   terms_left ts         the terms that the tails are
+--   tail_terms ts         the terms that the tails are
 --   parts_in ts           how many parts they have together
 --   HasPart t             t has a part
 --   Nests old new ts      new is old with the nodes of the tails behind
--- t tail · ts tails · old new nodes
-use Rattle.std.specs.Prelude.{◌≡◌, ℕ, ◌+◌, ◌<◌, List, [], ◌∷◌, length}
-use Rattle.std.proofs.Common.{take, drop}
+--   HaveParts ts          no term of ts is constant
+-- t tail · ts tails or terms · old new nodes
+use Rattle.std.specs.Prelude.{◌≡◌, ℕ, ◌+◌, ◌<◌, List, [], ◌∷◌, ◌++◌, length}
 use Rattle.binom_poly.specs.declared.term.Term.{Term}
 use Rattle.nested_poly.specs.declared.node.Node.{Node}
 use Rattle.nested_poly.specs.declared.tail.Tail.{Tail}
@@ -24,6 +24,11 @@ abbrev pub HasPart : Tail → Type 0
 HasPart t = 0 < length t.parts.now
 
 pub record Nests (old new : List Node) (ts : List Tail) : Type 0 where
-  pub kept : take (length old) new ≡ old
-  pub form : IsForest (drop (length old) new)
-  pub nest : IsNestOf (terms_of (drop (length old) new)) (tail_terms ts)
+  pub added : List Node
+  pub behind : new ≡ old ++ added
+  pub form : IsForest added
+  pub nest : IsNestOf (terms_of added) (tail_terms ts)
+
+unfoldable pub HaveParts : List Term → Type 0
+HaveParts [] = Unit {0}
+HaveParts (t ∷ ts) = (0 < length t.monomial) × HaveParts ts

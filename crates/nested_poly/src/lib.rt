@@ -5,9 +5,11 @@
 
 mod building;
 mod evaluation;
+mod nested;
 mod node;
 mod split;
 mod tail;
+mod tails;
 mod weighed;
 
-pub use node::Node;
+pub use nested::Nested;
