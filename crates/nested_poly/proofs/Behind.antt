@@ -64,17 +64,17 @@ whole_terms n bs os e =
 nest_branch : (m : Node) (ts us os ps : List Term) → IsNestOf ts us → IsNestOf os ps → IsNestOf (branch_terms m ts ++ os) (branch_terms m us ++ ps)
 nest_branch m ts us os ps h k = record {
   values = λ a.
-    value-append a (branch_terms m ts) os ∙ ap (λ z. z +ℤ value_of a os) (value_branch a m ts ∙ ap (λ z. choose (a m.part.var) m.part.exp *ℤ (z +ℤ m.coefficient)) (h.values a) ∙ sym (value_branch a m us))
-    ∙ ap (λ z. value_of a (branch_terms m us) +ℤ z) (k.values a) ∙ sym (value-append a (branch_terms m us) ps);
+      value-append a (branch_terms m ts) os ∙ ap (λ z. z +ℤ value_of a os) (value_branch a m ts ∙ ap (λ z. choose (a m.part.var) m.part.exp *ℤ (z +ℤ m.coefficient)) (h.values a) ∙ sym (value_branch a m us))
+      ∙ ap (λ z. value_of a (branch_terms m us) +ℤ z) (k.values a) ∙ sym (value-append a (branch_terms m us) ps);
   magnitudes = λ a.
-    magnitude-append a (branch_terms m ts) os
-    ∙ ap (λ z. z + magnitude_of a os) (magnitude_branch a m ts ∙ ap (λ z. unsigned_abs (choose (a m.part.var) m.part.exp) * (z + unsigned_abs m.coefficient)) (h.magnitudes a) ∙ sym (magnitude_branch a m us))
-    ∙ ap (λ z. magnitude_of a (branch_terms m us) + z) (k.magnitudes a) ∙ sym (magnitude-append a (branch_terms m us) ps);
+      magnitude-append a (branch_terms m ts) os
+      ∙ ap (λ z. z + magnitude_of a os) (magnitude_branch a m ts ∙ ap (λ z. unsigned_abs (choose (a m.part.var) m.part.exp) * (z + unsigned_abs m.coefficient)) (h.magnitudes a) ∙ sym (magnitude_branch a m us))
+      ∙ ap (λ z. magnitude_of a (branch_terms m us) + z) (k.magnitudes a) ∙ sym (magnitude-append a (branch_terms m us) ps);
   covers = λ rows c.
-    let l = covered_left rows (branch_terms m us) ps c in
-    covered-append rows (branch_terms m ts) os
-    (covered-under rows m.part (own_term m ∷ ts) (covered_first rows m us l) (tt, h.covers rows (covered_below rows m.part (own_term m ∷ us) l).1))
-    (k.covers rows (covered_right rows (branch_terms m us) ps c));
+      let l = covered_left rows (branch_terms m us) ps c in
+      covered-append rows (branch_terms m ts) os
+      (covered-under rows m.part (own_term m ∷ ts) (covered_first rows m us l) (tt, h.covers rows (covered_below rows m.part (own_term m ∷ us) l).1))
+      (k.covers rows (covered_right rows (branch_terms m us) ps c));
 }
 
 pub nest_trans : (ts us vs : List Term) → IsNestOf ts us → IsNestOf us vs → IsNestOf ts vs
@@ -200,7 +200,7 @@ tails_more ts ns us i t u l e f g k p h =
     let m : 0 < length u.monomial = parts_at us i u l e p in
     let n : length t.parts.now ≡ length u.monomial = ap length g in (
       ap tail_terms f ∙ tail_terms-append ts (t ∷ []) ∙ ap (λ xs. xs ++ tail_terms (t ∷ [])) h.0 ∙ ap (λ xs. take i us ++ xs) (one_tail t u g k)
-      ∙ sym ((take_at_read us i u l).1 ∙ ap (λ (s : Term). take i us ++ s ∷ []) (sym e)),
+          ∙ sym ((take_at_read us i u l).1 ∙ ap (λ (s : Term). take i us ++ s ∷ []) (sym e)),
       All_more ts ns t f h.1 (omega arith),
     )
 
@@ -218,7 +218,7 @@ nested_whole c none ns ts us p e h f k =
     let n : ns ≡ h.added = h.behind ∙ ap (λ xs. xs ++ h.added) e in (
       subst IsForest (sym n) h.form,
       nest_trans (constant_term c ∷ terms_of ns) (constant_term c ∷ us) p
-      (nest_constant c (terms_of ns) us (subst (λ xs. IsNestOf (terms_of xs) us) (sym n) (subst (IsNestOf (terms_of h.added)) f h.nest))) k,
+          (nest_constant c (terms_of ns) us (subst (λ xs. IsNestOf (terms_of xs) us) (sym n) (subst (IsNestOf (terms_of h.added)) f h.nest))) k,
     )
 
 value_whole : (a : ℕ → ℤ) (c : ℤ) (ts : List Term) → value_of a (constant_term c ∷ ts) ≡ value_of a ts +ℤ c

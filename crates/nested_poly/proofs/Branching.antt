@@ -273,8 +273,8 @@ sum_more rows ns rest after below next n w more sum e f g h b s =
     let k : length rest ≤ length ns = h.shorter in
     record {
       value_is =
-        h.value_is ∙ ap (λ z. w.value +ℤ z) (rest_value a rest after below next n e f g ∙ ap (λ z. z +ℤ value_of a (terms_of next)) (sym b.0))
-        ∙ sym (+ℤ_assoc w.value more.value (value_of a (terms_of next))) ∙ ap (λ z. z +ℤ value_of a (terms_of next)) (sym s.0);
+          h.value_is ∙ ap (λ z. w.value +ℤ z) (rest_value a rest after below next n e f g ∙ ap (λ z. z +ℤ value_of a (terms_of next)) (sym b.0))
+          ∙ sym (+ℤ_assoc w.value more.value (value_of a (terms_of next))) ∙ ap (λ z. z +ℤ value_of a (terms_of next)) (sym s.0);
       magnitude_is = omega arith;
       form = first.next_form;
       covered = first.next_covered;

@@ -208,13 +208,13 @@ adds_other old new t d e f g h differs =
     record {
       part = d;
       values = λ a.
-        ap (value_of a) i ∙ value_by a p c bs ns ∙ ap (λ z. choose (a p.var) p.exp *ℤ (value_of a (tail_terms bs) +ℤ c) +ℤ z) (value_more a os ns t g)
-        ∙ join_other (choose (a p.var) p.exp *ℤ (value_of a (tail_terms bs) +ℤ c)) (value_of a (tail_terms os)) (value_of a (tail_terms (t ∷ [])))
-        ∙ ap (λ z. z +ℤ value_of a (tail_terms (t ∷ []))) (sym (value_by a p c bs os));
+          ap (value_of a) i ∙ value_by a p c bs ns ∙ ap (λ z. choose (a p.var) p.exp *ℤ (value_of a (tail_terms bs) +ℤ c) +ℤ z) (value_more a os ns t g)
+          ∙ join_other (choose (a p.var) p.exp *ℤ (value_of a (tail_terms bs) +ℤ c)) (value_of a (tail_terms os)) (value_of a (tail_terms (t ∷ [])))
+          ∙ ap (λ z. z +ℤ value_of a (tail_terms (t ∷ []))) (sym (value_by a p c bs os));
       magnitudes = λ a.
-        ap (magnitude_of a) i ∙ magnitude_by a p c bs ns ∙ ap (λ z. unsigned_abs (choose (a p.var) p.exp) * (magnitude_of a (tail_terms bs) + unsigned_abs c) + z) (magnitude_more a os ns t g)
-        ∙ sum_other (unsigned_abs (choose (a p.var) p.exp) * (magnitude_of a (tail_terms bs) + unsigned_abs c)) (magnitude_of a (tail_terms os)) (magnitude_of a (tail_terms (t ∷ [])))
-        ∙ ap (λ z. z + magnitude_of a (tail_terms (t ∷ []))) (sym (magnitude_by a p c bs os));
+          ap (magnitude_of a) i ∙ magnitude_by a p c bs ns ∙ ap (λ z. unsigned_abs (choose (a p.var) p.exp) * (magnitude_of a (tail_terms bs) + unsigned_abs c) + z) (magnitude_more a os ns t g)
+          ∙ sum_other (unsigned_abs (choose (a p.var) p.exp) * (magnitude_of a (tail_terms bs) + unsigned_abs c)) (magnitude_of a (tail_terms os)) (magnitude_of a (tail_terms (t ∷ [])))
+          ∙ ap (λ z. z + magnitude_of a (tail_terms (t ∷ []))) (sym (magnitude_by a p c bs os));
       covers = λ rows l m n. subst (IsCovered rows) (sym i) (covered_by rows p c bs ns l (covered_bs rows p c bs os m) (covered_more rows os ns t g (covered_os rows p c bs os m) n));
       form = λ q. record { below = subst (All HasPart) (sym f) q.below; others = All_more os ns t g q.others h };
       parts = omega arith;
@@ -236,17 +236,17 @@ adds_below old new t u d e f g h z m =
     record {
       part = d;
       values = λ a.
-        ap (value_of a) i ∙ value_by a p c ns os ∙ ap (λ y. choose (a p.var) p.exp *ℤ (y +ℤ c) +ℤ value_of a (tail_terms os)) (value_more a bs ns u f)
-        ∙ join_below (choose (a p.var) p.exp) (value_of a (tail_terms bs)) (value_of a (tail_terms (u ∷ []))) c (value_of a (tail_terms os))
-        ∙ ap (λ y. y +ℤ choose (a p.var) p.exp *ℤ value_of a (tail_terms (u ∷ []))) (sym (value_by a p c bs os))
-        ∙ ap (λ y. value_of a (terms_by p c bs os) +ℤ y) (sym (value_first a t u p h z));
+          ap (value_of a) i ∙ value_by a p c ns os ∙ ap (λ y. choose (a p.var) p.exp *ℤ (y +ℤ c) +ℤ value_of a (tail_terms os)) (value_more a bs ns u f)
+          ∙ join_below (choose (a p.var) p.exp) (value_of a (tail_terms bs)) (value_of a (tail_terms (u ∷ []))) c (value_of a (tail_terms os))
+          ∙ ap (λ y. y +ℤ choose (a p.var) p.exp *ℤ value_of a (tail_terms (u ∷ []))) (sym (value_by a p c bs os))
+          ∙ ap (λ y. value_of a (terms_by p c bs os) +ℤ y) (sym (value_first a t u p h z));
       magnitudes = λ a.
-        ap (magnitude_of a) i ∙ magnitude_by a p c ns os ∙ ap (λ y. unsigned_abs (choose (a p.var) p.exp) * (y + unsigned_abs c) + magnitude_of a (tail_terms os)) (magnitude_more a bs ns u f)
-        ∙ sum_below (unsigned_abs (choose (a p.var) p.exp)) (magnitude_of a (tail_terms bs)) (magnitude_of a (tail_terms (u ∷ []))) (unsigned_abs c) (magnitude_of a (tail_terms os))
-        ∙ ap (λ y. y + unsigned_abs (choose (a p.var) p.exp) * magnitude_of a (tail_terms (u ∷ []))) (sym (magnitude_by a p c bs os))
-        ∙ ap (λ y. magnitude_of a (terms_by p c bs os) + y) (sym (magnitude_first a t u p h z));
+          ap (magnitude_of a) i ∙ magnitude_by a p c ns os ∙ ap (λ y. unsigned_abs (choose (a p.var) p.exp) * (y + unsigned_abs c) + magnitude_of a (tail_terms os)) (magnitude_more a bs ns u f)
+          ∙ sum_below (unsigned_abs (choose (a p.var) p.exp)) (magnitude_of a (tail_terms bs)) (magnitude_of a (tail_terms (u ∷ []))) (unsigned_abs c) (magnitude_of a (tail_terms os))
+          ∙ ap (λ y. y + unsigned_abs (choose (a p.var) p.exp) * magnitude_of a (tail_terms (u ∷ []))) (sym (magnitude_by a p c bs os))
+          ∙ ap (λ y. magnitude_of a (terms_by p c bs os) + y) (sym (magnitude_first a t u p h z));
       covers = λ rows q x y.
-        subst (IsCovered rows) (sym i) (covered_by rows p c ns os q (covered_more rows bs ns u f (covered_bs rows p c bs os x) (covered_one rows t u p h y)) (covered_os rows p c bs os x));
+          subst (IsCovered rows) (sym i) (covered_by rows p c ns os q (covered_more rows bs ns u f (covered_bs rows p c bs os x) (covered_one rows t u p h y)) (covered_os rows p c bs os x));
       form = λ q. record { below = All_more bs ns u f q.below m; others = subst (All HasPart) (sym g) q.others };
       parts = omega arith;
       fewer = λ _ _. omega arith;
@@ -266,17 +266,17 @@ adds_own old new t d z e f g h =
     record {
       part = d;
       values = λ a.
-        ap (value_of a) i ∙ value_by a p t.coefficient bs os
-        ∙ join_own (choose (a p.var) p.exp) (value_of a (tail_terms bs)) t.coefficient (value_of a (tail_terms os))
-        ∙ ap (λ y. y +ℤ choose (a p.var) p.exp *ℤ t.coefficient) (sym (ap (value_of a) o ∙ value_by a p (pos 0) bs os))
-        ∙ ap (λ y. value_of a (split_terms old) +ℤ y) (sym (value_own a t p h));
+          ap (value_of a) i ∙ value_by a p t.coefficient bs os
+          ∙ join_own (choose (a p.var) p.exp) (value_of a (tail_terms bs)) t.coefficient (value_of a (tail_terms os))
+          ∙ ap (λ y. y +ℤ choose (a p.var) p.exp *ℤ t.coefficient) (sym (ap (value_of a) o ∙ value_by a p (pos 0) bs os))
+          ∙ ap (λ y. value_of a (split_terms old) +ℤ y) (sym (value_own a t p h));
       magnitudes = λ a.
-        ap (magnitude_of a) i ∙ magnitude_by a p t.coefficient bs os
-        ∙ sum_own (unsigned_abs (choose (a p.var) p.exp)) (magnitude_of a (tail_terms bs)) (unsigned_abs t.coefficient) (magnitude_of a (tail_terms os))
-        ∙ ap (λ y. y + unsigned_abs (choose (a p.var) p.exp) * unsigned_abs t.coefficient) (sym (ap (magnitude_of a) o ∙ magnitude_by a p (pos 0) bs os))
-        ∙ ap (λ y. magnitude_of a (split_terms old) + y) (sym (magnitude_own a t p h));
+          ap (magnitude_of a) i ∙ magnitude_by a p t.coefficient bs os
+          ∙ sum_own (unsigned_abs (choose (a p.var) p.exp)) (magnitude_of a (tail_terms bs)) (unsigned_abs t.coefficient) (magnitude_of a (tail_terms os))
+          ∙ ap (λ y. y + unsigned_abs (choose (a p.var) p.exp) * unsigned_abs t.coefficient) (sym (ap (magnitude_of a) o ∙ magnitude_by a p (pos 0) bs os))
+          ∙ ap (λ y. magnitude_of a (split_terms old) + y) (sym (magnitude_own a t p h));
       covers = λ rows q x y.
-        subst (IsCovered rows) (sym i) (covered_by rows p t.coefficient bs os q (covered_bs rows p (pos 0) bs os (subst (IsCovered rows) o x)) (covered_os rows p (pos 0) bs os (subst (IsCovered rows) o x)));
+          subst (IsCovered rows) (sym i) (covered_by rows p t.coefficient bs os q (covered_bs rows p (pos 0) bs os (subst (IsCovered rows) o x)) (covered_os rows p (pos 0) bs os (subst (IsCovered rows) o x)));
       form = λ q. record { below = subst (All HasPart) (sym f) q.below; others = subst (All HasPart) (sym g) q.others };
       parts = omega arith;
       fewer = λ _ _. omega arith;
@@ -354,8 +354,8 @@ next_added s new t u ts us e l h k =
           values = λ a. k.values a ∙ ap (λ y. y +ℤ value_of a (tail_terms (u ∷ []))) (h.split.nest.values a) ∙ sym (value_more a (t ∷ ts) (t ∷ us) u i);
           magnitudes = λ a. k.magnitudes a ∙ ap (λ y. y + magnitude_of a (tail_terms (u ∷ []))) (h.split.nest.magnitudes a) ∙ sym (magnitude_more a (t ∷ ts) (t ∷ us) u i);
           covers = λ rows y.
-            let both = subst (IsCovered rows) (ap tail_terms i ∙ tail_terms-append (t ∷ ts) (u ∷ [])) y in
-            k.covers rows (covered_part rows t us s.part l h.begins y) (h.split.nest.covers rows (covered_left rows (tail_terms (t ∷ ts)) (tail_terms (u ∷ [])) both)) (covered_right rows (tail_terms (t ∷ ts)) (tail_terms (u ∷ [])) both);
+              let both = subst (IsCovered rows) (ap tail_terms i ∙ tail_terms-append (t ∷ ts) (u ∷ [])) y in
+              k.covers rows (covered_part rows t us s.part l h.begins y) (h.split.nest.covers rows (covered_left rows (tail_terms (t ∷ ts)) (tail_terms (u ∷ [])) both)) (covered_right rows (tail_terms (t ∷ ts)) (tail_terms (u ∷ [])) both);
         };
         form = k.form h.split.form;
         fewer = omega arith;

@@ -55,7 +55,7 @@ weigh-split_at-requires t c =
 pub weigh-weigh_branch-requires : goal.weigh-weigh_branch-requires
 weigh-weigh_branch-requires t c =
     let h : First c.args.rows.now c.in-Some.node.now c.split_at.result.0.now c.split_at.result.1.now =
-      first_of_rest c.args.rows.now c.args.nodes.now c.siblings.rest.now c.in-Some.after.now c.split_at.result.0.now c.split_at.result.1.now c.in-Some.node.now c.siblings.sum.value c.siblings.sum.magnitude c.in-Some.ensures.cases.0 c.split_at.ensures.front c.split_at.ensures.back c.siblings.invariant in
+    first_of_rest c.args.rows.now c.args.nodes.now c.siblings.rest.now c.in-Some.after.now c.split_at.result.0.now c.split_at.result.1.now c.in-Some.node.now c.siblings.sum.value c.siblings.sum.magnitude c.in-Some.ensures.cases.0 c.split_at.ensures.front c.split_at.ensures.back c.siblings.invariant in
     let x : length c.in-Some.after.now + 1 ≡ length c.siblings.rest.now = c.in-Some.ensures.cases.1 in
     let y : length c.split_at.result.0.now ≤ length c.in-Some.after.now = omega (arith, c.split_at.ensures.front_len, c.split_at.ensures.back_len) in
     let z : length c.siblings.rest.now ≤ length c.args.nodes.now = c.siblings.invariant.shorter in
