@@ -13,3 +13,4 @@ pub mod Entries
 pub mod Factoring
 pub mod OneTable
 pub mod OfShape
+pub mod Nested

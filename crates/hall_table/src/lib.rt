@@ -6,6 +6,7 @@ mod checked;
 pub mod laws;
 mod lending;
 mod multiplying;
+mod nesting;
 pub mod presentations;
 mod reserving;
 mod shaping;
@@ -15,6 +16,8 @@ mod tailing;
 #[cfg(test)]
 mod tests;
 mod tops;
+#[cfg(test)]
+mod tree_tests;
 mod wide_at;
 
 pub use checked::Checked;

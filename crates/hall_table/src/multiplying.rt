@@ -2,21 +2,21 @@
 
 ghost use Rattle.std.specs.Prelude.{◌≡◌, ◌≤◌, ℕ, ℤ, pos, negsuc, ◌≤ℤ◌, length, map, cond, OnOk, OnErr, IfOk};
 ghost use Rattle.std.proofs.Common.{ltb};
-ghost use Rattle.nil_num.specs.Bound.{IsNumber};
+ghost use Rattle.nil_num.specs.Bound.{IsNumber, Overflows};
 ghost use Rattle.nil_word.specs.Exponents.{entry, numbers};
 ghost use Rattle.nil_num.specs.Bound.{IsNumber};
 ghost use Rattle.binom_poly.specs.Polynomial.{value_of};
-ghost use Rattle.binom_poly.specs.Readings.{value_at, with_value};
+ghost use Rattle.binom_poly.specs.Readings.{magnitude_of, value_at, with_value};
 ghost use Rattle.binom_poly.specs.Variable.{y_of};
 
 use super::table::{GENERATOR_LIMIT, Table};
 use super::wide_at::WideAt;
-use binom_poly::{Rows, value, y_of};
+use binom_poly::{Rows, Wide, y_of};
 use nil_word::Vector;
 
 impl Table {
     ghost use Rattle.nil_num.specs.First.{first_from};
-    ghost use Rattle.nil_num.specs.Outcome.{Writes};
+    ghost use Rattle.nil_num.specs.Outcome.{Unless, Writes};
     ghost use Rattle.hall_table.specs.Shape.{IsX};
     ghost use Rattle.hall_table.specs.Tabled.{last_of, poly_at};
     ghost use Rattle.hall_table.specs.Values.{values};
@@ -59,6 +59,17 @@ impl Table {
         }
     }
 
+    /// The value of a generator's polynomial, by its tree.
+    fn nested_value(&self, rows: &Rows, k: u32) -> Result<i128, Wide>
+        requires least { self.now.level ≤ k }
+        requires most { k ≤ last_of self.now }
+        requires rows { HasRows self.now rows.now }
+        ensures { Unless (Overflows (magnitude_of (value_at rows.now) (poly_at self.now k)))
+            (value_of (value_at rows.now) (poly_at self.now k)) result }
+    {
+        self.nested[(k - self.level) as usize].value(rows)
+    }
+
     /// The value of a generator's polynomial at the values of the rows.
     pub fn entry(&self, rows: &Rows, k: u32) -> Result<i128, WideAt>
         requires least { self.now.level ≤ k }
@@ -69,7 +80,7 @@ impl Table {
         ensures wide { let overflows = sum_overflows (value_at rows.now) (poly_at self.now k) in
             RefusesAt (WideAt.Sum k) overflows result }
     {
-        match value(&self.polys[(k - self.level) as usize], rows) {
+        match self.nested_value(rows, k) {
             Ok(value) => Ok(value),
             Err(_) => Err(WideAt::Sum(k)),
         }

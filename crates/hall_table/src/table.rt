@@ -4,10 +4,12 @@ ghost use Rattle.std.specs.Prelude.{◌≡◌, ℕ, ℤ, ◌+◌, ◌-◌, ◌<�
 ghost use Rattle.binom_poly.specs.Polynomial.{value_of};
 
 use super::Memory;
+use super::nesting::nest_all;
 use super::shaping::has_shape;
 use super::table_of_fault::TableOfFault;
 use super::tailing::from_level;
 use binom_poly::{Poly, copy};
+use nested_poly::Nested;
 use std::alloc::Global;
 use std::marker::Model;
 
@@ -20,24 +22,27 @@ pub const GENERATOR_LIMIT: usize = 48;
 pub struct Table {
     pub(super) level: u32,
     pub(super) polys: Vec<Poly>,
+    pub(super) nested: Vec<Nested>,
 }
 
 impl Model for Table {
     ghost use Rattle.hall_table.specs.Tabled.{Tabled, IsTabled};
+    ghost use Rattle.hall_table.specs.Nests.{AreNests};
 
     ghost Value = { Tabled };
 
     ghost view = { λ t. record { level = t.level; polys = t.polys.items } };
 
-    ghost invariant = { λ t. IsTabled record { level = t.level; polys = t.polys.items } };
+    ghost invariant = { λ t. IsTabled record { level = t.level; polys = t.polys.items }
+        × AreNests t.nested.items t.polys.items };
 }
 
 impl Table {
     ghost use Rattle.hall_table.specs.Tabled.{IsTabled, AreShaped, IsFirstUnshaped, last_of, poly_at};
     ghost use Rattle.hall_table.specs.Tail.{at_level, tail_of};
 
-    /// The table of the polynomials from a level on. A flat table takes no memory.
-    pub fn of(_alloc: Global, level: u32, polys: Vec<Poly>) -> Result<Table, TableOfFault>
+    /// The table of the polynomials from a level on.
+    pub fn of(alloc: Global, level: u32, polys: Vec<Poly>) -> Result<Table, TableOfFault>
         requires least { 1 ≤ level }
         requires nonempty { 0 < length polys.items }
         requires most { level + length polys.items ≤ GENERATOR_LIMIT + 1 }
@@ -52,7 +57,14 @@ impl Table {
                 return Err(TableOfFault::Shape(k));
             }
         }
-        Ok(Table { level, polys })
+        let Ok(nested) = nest_all(alloc, &polys) else {
+            return Err(TableOfFault::Memory);
+        };
+        Ok(Table {
+            level,
+            polys,
+            nested,
+        })
     }
 
     /// The first generator.
@@ -88,9 +100,11 @@ impl Table {
         for poly in &self.polys {
             polys.push(copy(alloc, poly)?)?;
         }
+        let nested = nest_all(alloc, &polys)?;
         Ok(Table {
             level: self.level,
             polys,
+            nested,
         })
     }
 
@@ -106,6 +120,11 @@ impl Table {
         for poly in &self.polys[(level - self.level) as usize..] {
             polys.push(from_level(alloc, poly, level)?)?;
         }
-        Ok(Table { level, polys })
+        let nested = nest_all(alloc, &polys)?;
+        Ok(Table {
+            level,
+            polys,
+            nested,
+        })
     }
 }

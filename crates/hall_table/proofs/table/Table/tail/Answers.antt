@@ -1,18 +1,21 @@
 use Rattle.std.proofs.Common.{◌≡◌, subst}
 use Rattle.binom_poly.specs.Polynomial.{value_of}
 use Rattle.hall_table.specs.Tabled.{Tabled, IsTabled, poly_at}
+use Rattle.hall_table.specs.Nests.{AreNests}
 use Rattle.hall_table.specs.Tail.{at_level}
 use Rattle.hall_table.proofs.Dropping.{tail_made, IsTabled-tail_of, value_of-tail_of}
 use Rattle.hall_table.proofs.table.Table.tail.Goals as goal
 
 -- the polynomials that were made are those of the tail
 pub invariant_of-result : goal.invariant_of-result
-invariant_of-result c =
-    subst IsTabled
-    (tail_made record { level = c.self.inside.level; polys = c.self.inside.polys.items } c.args.self.now c.args.level
-    c.loop-poly.poly-index c.deref.result.now c.loop-poly.polys.items c.self.view_is c.deref.ensures.value
-    c.loop-poly.invariant c.loop-poly-test.false)
-    (IsTabled-tail_of c.args.self.now c.args.level (subst IsTabled c.self.view_is c.self.invariant) c.requires.least c.requires.most)
+invariant_of-result c = (
+  subst IsTabled
+      (tail_made record { level = c.self.inside.level; polys = c.self.inside.polys.items } c.args.self.now c.args.level
+      c.loop-poly.poly-index c.deref.result.now c.loop-poly.polys.items c.self.view_is c.deref.ensures.value
+      c.loop-poly.invariant c.loop-poly-test.false)
+      (IsTabled-tail_of c.args.self.now c.args.level (subst IsTabled c.self.view_is c.self.invariant.0) c.requires.least c.requires.most),
+  subst (AreNests c.in_ok-nested.nested.items) c.deref-2.ensures.value c.in_ok-nested.ensures,
+)
 
 pub returns-clause-values : goal.returns-clause-values
 returns-clause-values c = λ k a low to.
@@ -20,4 +23,4 @@ returns-clause-values c = λ k a low to.
     (tail_made record { level = c.self.inside.level; polys = c.self.inside.polys.items } c.args.self.now c.args.level
     c.loop-poly.poly-index c.deref.result.now c.loop-poly.polys.items c.self.view_is c.deref.ensures.value
     c.loop-poly.invariant c.loop-poly-test.false)
-    (value_of-tail_of c.args.self.now c.args.level k a (subst IsTabled c.self.view_is c.self.invariant) c.requires.least low to)
+    (value_of-tail_of c.args.self.now c.args.level k a (subst IsTabled c.self.view_is c.self.invariant.0) c.requires.least low to)

@@ -5,4 +5,4 @@ use Rattle.hall_table.proofs.table.Table.top.Goals as goal
 pub returns-clause-small : goal.returns-clause-small
 returns-clause-small c =
     top_is_small c.args.variable c.max.result c.greatest_in.result c.self.inside.level c.deref.result.now
-    c.self.inside.polys.items c.max.ensures c.greatest_in.ensures.greatest c.deref.ensures.value c.self.invariant
+    c.self.inside.polys.items c.max.ensures c.greatest_in.ensures.greatest c.deref.ensures.value c.self.invariant.0

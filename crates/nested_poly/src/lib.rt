@@ -1,0 +1,15 @@
+//! Polynomials as trees by their variables, for evaluation: terms that begin with the same parts
+//! share their product, and what a zero factor leads to isn't looked at.
+//! Not promised: time, or that memory is there.
+#![tactic(auto)]
+
+mod building;
+mod evaluation;
+mod nested;
+mod node;
+mod split;
+mod tail;
+mod tails;
+mod weighed;
+
+pub use nested::Nested;
