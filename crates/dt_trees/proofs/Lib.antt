@@ -2,6 +2,7 @@ pub mod Each
 pub mod Depth
 pub mod Small
 pub mod Stacks
+pub mod Fresh
 pub mod Gaining
 pub mod Joining
 pub mod Pairs
