@@ -1,6 +1,6 @@
 -- A number above those of its group raises nothing.
 --   g h groups · i m n numbers · t letter · ts letters
-use Rattle.std.proofs.Common.{◌≡◌, ℕ, suc, ◌<◌, ◌≤◌, Bool, true, false, ◌&&◌, nat_le, List, [], ◌∷◌, map, refl, ap, ◌∙◌, arith, if◌then◌else◌}
+use Rattle.std.proofs.Common.{◌≡◌, ℕ, suc, ◌<◌, Bool, true, false, ◌&&◌, nat_le, List, [], ◌∷◌, map, refl, ap, ◌∙◌, arith, if◌then◌else◌}
 use Rattle.dt_letters.specs.Letters.{Letter, leaf, node, Group, leaves, nodes, member}
 use Rattle.dt_letters.specs.Meeting.{same_group}
 use Rattle.dt_letters.specs.Least.{own_number, greatest_in, greatest}

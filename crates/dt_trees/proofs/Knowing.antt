@@ -10,8 +10,10 @@ use Rattle.dt_letters.specs.Allowed.{Exponents, exponents_of}
 use Rattle.dt_letters.specs.Listing.{Grew, grown}
 use Rattle.dt_letters.specs.Arena.{Arena, IsExtended}
 use Rattle.dt_trees.specs.declared.grown.Grown.{Grown}
-use Rattle.dt_trees.specs.Ways.{AreWays}
+use Rattle.dt_trees.specs.Ways.{IsWay, AreWays}
 use Rattle.dt_trees.specs.Known.{AreKnown}
+use Rattle.std.proofs.lemmas.List.Elements.{All-nil}
+use Rattle.dt_trees.proofs.Low.{grown-low}
 use Rattle.dt_trees.proofs.Gaining.{ways-kept}
 
 -- over a later arena
@@ -30,6 +32,12 @@ known-at a b x level wss h p i ways now e lt is same =
 
 pub known-none : (a : Arena) (e : Exponents) (level : ℕ) → AreKnown a e level []
 known-none a e level i d lt = absurd (omega (arith, lt))
+
+pub ways-low : (a : Arena) (e : Exponents) (level k : ℕ) (ws : List Grown) → k < level → ws ≡ []
+    → AreWays a ws (grown e level k [] k)
+ways-low a e level k ws low none =
+    subst (λ (us : List Grown). AreWays a us (grown e level k [] k)) (sym none)
+    (record { ways = All-nil (IsWay a); are = sym (grown-low e level k [] k low) })
 
 -- those of the next type
 pub known-next : (a b : Arena) → IsExtended a b → (level : ℕ) (wss vss : List (Vec Grown Global))

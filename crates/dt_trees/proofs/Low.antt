@@ -1,6 +1,6 @@
 -- Nothing grows by types below the level.
 --   e exponents · level · n depth · k p q types · ts letters
-use Rattle.std.proofs.Common.{◌≡◌, ℕ, zero, suc, ◌+◌, ◌-◌, ◌<◌, nat_le, Bool, true, false, pos, List, [], ◌∷◌, ◌++◌, refl, ap, ◌∙◌, arith, inl, inr, if◌then◌else◌}
+use Rattle.std.proofs.Common.{◌≡◌, ℕ, zero, suc, ◌-◌, ◌<◌, nat_le, Bool, true, false, pos, List, [], ◌∷◌, ◌++◌, refl, ap, ◌∙◌, arith, inl, inr, if◌then◌else◌}
 use Rattle.dt_letters.specs.declared.side.Side.TheVariants as side
 use Rattle.dt_letters.specs.Letters.{Letter, leaves}
 use Rattle.dt_letters.specs.Allowed.{Exponents}
@@ -23,7 +23,7 @@ leaves-none true xs ys h e = absurd (grind (arith, h))
 leaves-none false xs ys h e = e
 
 module _ (e : Exponents) (level : ℕ) where
-  grown-low : (n : ℕ) (ts : List Letter) (k : ℕ) → k < level → grown e level n ts k ≡ []
+  pub grown-low : (n : ℕ) (ts : List Letter) (k : ℕ) → k < level → grown e level n ts k ≡ []
   grown-low zero ts k h = refl
   grown-low (suc n) ts k h =
       leaves-none (nat_le level k) (places (leaves side.X k) (pos 0) ts ++ places (leaves side.Y k) (pos 0) ts)

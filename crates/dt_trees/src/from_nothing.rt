@@ -71,3 +71,27 @@ pub(crate) fn grow_from_nothing(
     }
     Ok(ways)
 }
+
+/// The ways in which the empty stack grows by a tree of the type.
+pub(crate) fn ways_from_nothing(
+    alloc: Global,
+    letters: &mut Letters,
+    level: u32,
+    k: u32,
+) -> Result<Vec<Grown>, Memory>
+    requires level { 1 ≤ level }
+    requires most { k ≤ 48 }
+    ensures kept { IsExtended letters.old letters.new }
+    ensures ways { IfOk result (λ ws. AreWays letters.new ws.items
+        (grown (exponents_of letters.old.pres) level k [] k)) }
+{
+    if k < level {
+        return Ok(Vec::new(alloc));
+    }
+    let mut known = Vec::new(alloc);
+    for p in level..k {
+        let ways = grow_from_nothing(alloc, letters, level, &known, p)?;
+        known.push(ways)?;
+    }
+    grow_from_nothing(alloc, letters, level, &known, k)
+}

@@ -1,5 +1,5 @@
 -- As for any stack, with no letters there.
-use Rattle.std.proofs.Common.{sym, ap, subst, arith, rules, ℤ, [], map, w64, to_z, of_z, FitsSigned}
+use Rattle.std.proofs.Common.{sym, ap, subst, arith, rules, ℤ, [], map, w64, of_z, FitsSigned}
 use Rattle.std.specs.Prelude.{All, OnOk}
 use Rattle.std.proofs.lemmas.Int.{to_z-of_z}
 use Rattle.dt_letters.specs.Allowed.{exponents_of}

@@ -1,5 +1,5 @@
 -- The trees as they grew are the least trees.
-use Rattle.std.proofs.Common.{◌∙◌, ◌+◌, [], length, refl, map, sym, ap, subst}
+use Rattle.std.proofs.Common.{◌∙◌, [], length, refl, map, sym, ap, subst}
 use Rattle.std.specs.Prelude.{All, List}
 use Rattle.nil_pres.specs.Presented.{IsPresented}
 use Rattle.nil_num.specs.Outcome.{Gives, Unless}
