@@ -1,10 +1,10 @@
 -- Letters that stand before a half of the nodes of a group: none of the group is in them.
 --   fs forms · l r places of the halves · p q places · k m types · i n numbers
-use Rattle.std.proofs.Common.{◌≡◌, ℕ, zero, suc, ◌+◌, ◌<◌, ◌≤◌, List, [], length, slice_get, Some, Bool, true, false, ◌&&◌, nat_eq, nat_le, max, ◌⊎◌, inl, inr, if◌then◌else◌, refl, sym, ap, ◌∙◌, subst, arith}
+use Rattle.std.proofs.Common.{◌≡◌, ℕ, zero, suc, ◌<◌, ◌≤◌, List, [], length, Bool, true, false, ◌&&◌, nat_eq, max, ◌⊎◌, inl, inr, if◌then◌else◌, refl, sym, ap, ◌∙◌, subst, arith}
 use Rattle.dt_letters.specs.declared.side.Side.{Side}
 use Rattle.dt_letters.specs.declared.form.Form.{Form}
 use Rattle.dt_letters.specs.declared.form.Form.TheVariants as form
-use Rattle.dt_letters.specs.Letters.{Letter, leaf, node, leaves, nodes, group_of}
+use Rattle.dt_letters.specs.Letters.{Letter, leaf, node, nodes, group_of}
 use Rattle.dt_letters.specs.Meeting.{same_letter, same_group}
 use Rattle.dt_letters.specs.Least.{greatest_in, own_number}
 use Rattle.dt_letters.specs.Growth.{raise, raised}

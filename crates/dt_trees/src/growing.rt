@@ -185,7 +185,7 @@ fn grow_pair(
 
 /// The ways in which the stack grows by a tree of the type.
 #[cycle(grow)]
-pub(crate) fn grow(
+fn grow(
     alloc: Global,
     letters: &mut Letters,
     level: u32,

@@ -4,7 +4,7 @@ use Rattle.dt_letters.specs.declared.tree.Tree.{Tree}
 use Rattle.dt_letters.specs.Letters.{node, group_of}
 use Rattle.dt_letters.specs.Growth.{raised}
 use Rattle.dt_letters.specs.Least.{greatest_in}
-use Rattle.dt_letters.specs.Arena.{Arena, IsTreeOf, AreForms, AreDifferent, letter_in, letter_at, letters_of}
+use Rattle.dt_letters.specs.Arena.{Arena, IsTreeOf, AreForms, AreDifferent, letter_in}
 use Rattle.dt_letters.specs.declared.form.Form.{Form}
 use Rattle.std.specs.Prelude.{List}
 use Rattle.dt_letters.proofs.Early.{none-of-member}
