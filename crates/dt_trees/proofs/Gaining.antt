@@ -1,6 +1,6 @@
 -- Ways over an arena: when it is extended, and when more come.
 --   a b c arenas · t tree · ts us trees · xs letters · w v way · ws vs us ways · g way of letters · gs hs more of them
-use Rattle.std.proofs.Common.{◌≡◌, ℕ, suc, ◌+◌, List, [], ◌∷◌, ◌++◌, map, refl, sym, ap, ◌∙◌, subst, append_assoc, add-one, Bool, true, ℤ, Ok, Err, if◌then◌else◌}
+use Rattle.std.proofs.Common.{◌≡◌, ℕ, suc, ◌+◌, List, [], ◌∷◌, ◌++◌, map, refl, sym, ap, ◌∙◌, subst, arith, append_assoc, add-one, Bool, true, ℤ, Ok, Err, if◌then◌else◌}
 use Rattle.std.specs.Prelude.{All, OnOk, Result}
 use Rattle.std.proofs.lemmas.List.{append-nil, map-append}
 use Rattle.std.proofs.lemmas.List.Elements.{All-nil, All-cons, All-head, All-tail, All-push}
@@ -9,9 +9,11 @@ use Rattle.dt_letters.specs.Letters.{Letter, Group, group_of}
 use Rattle.dt_letters.specs.Least.{greatest}
 use Rattle.dt_letters.specs.Listing.{Grew, upto, again, anew, has_room, places, places_up_to}
 use Rattle.dt_letters.specs.Arena.{Arena, letter_in, IsTreeOf, IsExtended, IsTreeFor}
+use Rattle.dt_letters.proofs.Different.{extended-trans}
 use Rattle.dt_trees.specs.declared.grown.Grown.{Grown}
 use Rattle.dt_trees.specs.Ways.{stack_in, grown_in, IsStackFor, IsWay, AreWays, Gains}
 use Rattle.dt_trees.proofs.Each.{map-upto}
+use Rattle.dt_trees.proofs.Fresh.{anew-fresh}
 use Rattle.dt_trees.proofs.Stacks.{stack-kept, trees-kept}
 
 -- ways
@@ -115,25 +117,31 @@ anew-kept a b x t ts i h k =
     ap (λ (l : Letter). anew (group_of l) (stack_in b ts) i) (x.1 t h).1
     ∙ ap (λ (xs : List Letter). anew (group_of (letter_in a t)) xs i) (stack-kept a b x ts k)
 
--- the numbers that are there, and those that come in
-pub gains-places : (a b d : Arena) (ws vs us : List Grown) → IsExtended a b → (t : Tree) (ts : List Tree)
-    → IsTreeOf a t → All (IsTreeOf a) ts → (c : ℤ) (m : ℕ)
+-- the numbers that are there, those that come in among them, and the one that comes in above them
+pub gains-places : (a b d o : Arena) (ws vs us zs : List Grown) → IsExtended a b → IsExtended b d
+    → (t : Tree) (ts : List Tree) → IsTreeOf a t → All (IsTreeOf a) ts → (c : ℤ) (m : ℕ)
     → m ≡ greatest (group_of (letter_in a t)) (stack_in a ts) → has_room c m ≡ true
     → Gains a ws b vs (map (again (group_of (letter_in a t)) (stack_in a ts)) (upto m))
-    → Gains b vs d us (map (anew (group_of (letter_in b t)) (stack_in b ts)) (upto (m + 1)))
-    → Gains a ws d us (places (group_of (letter_in a t)) c (stack_in a ts))
-gains-places a b d ws vs us x t ts h k c m e room p q =
+    → Gains b vs d us (map (anew (group_of (letter_in b t)) (stack_in b ts)) (upto m))
+    → Gains d us o zs (again (group_of (letter_in d t)) (stack_in d ts) (m + 1) ∷ [])
+    → Gains a ws o zs (places (group_of (letter_in a t)) c (stack_in a ts))
+gains-places a b d o ws vs us zs x y t ts h k c m e room p q r =
     let g = group_of (letter_in a t) in
     let xs = stack_in a ts in
-    let news : Group → List Letter → List Grew = λ f ys. map (anew f ys) (upto (suc m)) in
-    let same : map (anew (group_of (letter_in b t)) (stack_in b ts)) (upto (m + 1)) ≡ news g xs =
-    ap (λ (i : ℕ). map (anew (group_of (letter_in b t)) (stack_in b ts)) (upto i)) (add-one m)
-    ∙ ap (λ (l : Letter). news (group_of l) (stack_in b ts)) (x.1 t h).1
-    ∙ ap (λ (ys : List Letter). news g ys) (stack-kept a b x ts k) in
-    let both = gains-trans a b d ws vs us (map (again g xs) (upto m)) (news g xs) p
-    (gains-same b d vs us (map (anew (group_of (letter_in b t)) (stack_in b ts)) (upto (m + 1))) (news g xs) same q) in
-    gains-same a d ws us (map (again g xs) (upto m) ++ news g xs) (places g c xs)
-    (ap (λ (z : Bool). map (again g xs) (upto m) ++ (if z then news g xs else [])) (sym room)
+    let news : Group → List Letter → ℕ → List Grew = λ f ys n. map (anew f ys) (upto n) in
+    let same : news (group_of (letter_in b t)) (stack_in b ts) m ≡ news g xs m =
+    ap (λ (l : Letter). news (group_of l) (stack_in b ts) m) (x.1 t h).1
+    ∙ ap (λ (ys : List Letter). news g ys m) (stack-kept a b x ts k) in
+    let top : again (group_of (letter_in d t)) (stack_in d ts) (m + 1) ≡ anew g xs (m + 1) =
+    again-kept a d (extended-trans a b d x y) t ts (m + 1) h k
+    ∙ sym (anew-fresh g (m + 1) xs (omega (arith, e))) in
+    let come = gains-next b d o vs us zs (anew g xs) m
+    (again (group_of (letter_in d t)) (stack_in d ts) (m + 1))
+    (gains-same b d vs us (news (group_of (letter_in b t)) (stack_in b ts) m) (news g xs m) same q) r top in
+    let both = gains-trans a b o ws vs zs (map (again g xs) (upto m)) (news g xs (suc m)) p
+    (gains-same b o vs zs (news g xs (m + 1)) (news g xs (suc m)) (ap (news g xs) (add-one m)) come) in
+    gains-same a o ws zs (map (again g xs) (upto m) ++ news g xs (suc m)) (places g c xs)
+    (ap (λ (z : Bool). map (again g xs) (upto m) ++ (if z then news g xs (suc m) else [])) (sym room)
     ∙ ap (λ (n : ℕ). places_up_to g c xs n) e) both
 
 pub on_ok : {A E : Type 0} (r : Result A E) (P Q : Type 0) → (P → Q) → OnOk r P → OnOk r Q

@@ -1,8 +1,8 @@
 -- Leaves and joined letters, put into stacks over an arena.
 --   a b d arenas · w way · ws vs us ways · t m trees · ts rest now stacks · l r letters · e exponents · k type · c limit
-use Rattle.std.proofs.Common.{◌≡◌, ℕ, ◌<◌, ◌≤◌, List, [], ◌∷◌, ◌++◌, length, get_or, map, sym, ap, ◌∙◌, subst, arith, Bool, true, false, nat_le, ℤ, pos, if◌then◌else◌}
+use Rattle.std.proofs.Common.{◌≡◌, ℕ, ◌+◌, ◌<◌, ◌≤◌, List, [], ◌∷◌, ◌++◌, length, get_or, take, map, sym, ap, ◌∙◌, subst, arith, Bool, true, false, nat_le, ℤ, pos, if◌then◌else◌}
 use Rattle.std.specs.Prelude.{All}
-use Rattle.std.proofs.lemmas.List.{map-append, get_or-map, length-map}
+use Rattle.std.proofs.lemmas.List.{map-append, get_or-map, length-map, take_more}
 use Rattle.nil_pres.specs.Presented.{Presented}
 use Rattle.dt_letters.specs.declared.side.Side.{Side}
 use Rattle.dt_letters.specs.declared.side.Side.TheVariants as side
@@ -113,6 +113,17 @@ gains-each a b d ws vs us done w f more e p q =
     ∙ each-push f (map (grown_in a) done) (grown_in a w)))
     (gains-trans a b d ws vs us (each f (map (grown_in a) done)) (f (grown_in a w)) p
     (gains-same b d vs us more (f (grown_in a w)) e q))
+
+-- the same, where the ways stand in a slice
+pub gains-each-next : (a b d : Arena) (ws vs us lefts : List Grown) (i : ℕ) (w : Grown) (f : Grew → List Grew)
+    (more : List Grew) → i < length lefts → w ≡ get_or lefts i w → more ≡ f (grown_in a w)
+    → Gains a ws b vs (each f (map (grown_in a) (take i lefts))) → Gains b vs d us more
+    → Gains a ws d us (each f (map (grown_in a) (take (i + 1) lefts)))
+gains-each-next a b d ws vs us lefts i w f more lt is e p q =
+    let next : take i lefts ++ w ∷ [] ≡ take (i + 1) lefts =
+    ap (λ (z : Grown). take i lefts ++ z ∷ []) is ∙ sym (take_more lefts i w lt) in
+    subst (λ (done : List Grown). Gains a ws d us (each f (map (grown_in a) done))) next
+    (gains-each a b d ws vs us (take i lefts) w f more e p q)
 
 pub joined-kept : (a b : Arena) → IsExtended a b → (w : Grown) (k : ℕ) (c : ℤ) → IsWay a w
     → joined (exponents_of b.pres) k c (grown_in b w).tree (grown_in b w).list

@@ -1,8 +1,11 @@
 pub mod Each
 pub mod Depth
+pub mod Low
 pub mod Small
 pub mod Stacks
+pub mod Fresh
 pub mod Gaining
+pub mod Knowing
 pub mod Joining
 pub mod Pairs
 pub mod Groups

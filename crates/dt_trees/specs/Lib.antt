@@ -1,3 +1,4 @@
 pub mod Ways
+pub mod Known
 pub mod Polynomials
 pub mod Overflowing

@@ -35,7 +35,7 @@ fn place_leaf(
 }
 
 /// Appends the ways to grow by a leaf whose type is from the level on.
-fn place_leaves(
+pub(crate) fn place_leaves(
     alloc: Global,
     letters: &mut Letters,
     level: u32,
@@ -110,14 +110,24 @@ fn join_all(
     Ok(())
 }
 
+/// The stack with the tree by which it grew as its last.
+fn with_tree(alloc: Global, way: &Grown) -> Result<Vec<Tree>, Memory>
+    ensures { IfOk result (λ list. list.items ≡ way.now.list.items ++ way.now.tree ∷ []) }
+{
+    let mut list = Vec::with_capacity(alloc, way.list.len() + 1)?;
+    list.extend_from_slice(&way.list)?;
+    list.push(way.tree)?;
+    Ok(list)
+}
+
 /// Appends the ways to grow by a right letter and to join, for each way in which a stack grew by a
 /// left letter.
 #[cycle(grow)]
-fn grow_rights(
+pub(crate) fn grow_rights(
     alloc: Global,
     letters: &mut Letters,
     level: u32,
-    lefts: Vec<Grown>,
+    lefts: &[Grown],
     q: u32,
     k: u32,
     limit: i64,
@@ -127,16 +137,15 @@ fn grow_rights(
     requires least { 1 ≤ q }
     requires below { q < k }
     requires most { k ≤ 48 }
-    requires ways { All (IsWay letters.old) lefts.items }
-    requires small { All (FitsFor q) (map (grown_in letters.old) lefts.items) }
+    requires ways { All (IsWay letters.old) lefts.now }
+    requires small { All (FitsFor q) (map (grown_in letters.old) lefts.now) }
     ensures kept { IsExtended letters.old letters.new }
     ensures gains { OnOk result (Gains letters.old ways.old.items letters.new ways.new.items
         (each (rights_of (exponents_of letters.old.pres) level q k limit)
-        (map (grown_in letters.old) lefts.items))) }
+        (map (grown_in letters.old) lefts.now))) }
 {
     for left in lefts {
-        let Grown { mut list, tree } = left;
-        list.push(tree)?;
+        let list = with_tree(alloc, left)?;
         let rights = grow(alloc, letters, level, &list, q)?;
         join_all(alloc, letters, rights, k, limit, ways)?;
     }
@@ -171,12 +180,12 @@ fn grow_pair(
         return Ok(());
     }
     let lefts = grow(alloc, letters, level, stack, p)?;
-    grow_rights(alloc, letters, level, lefts, q, k, limit, ways)
+    grow_rights(alloc, letters, level, &lefts, q, k, limit, ways)
 }
 
 /// The ways in which the stack grows by a tree of the type.
 #[cycle(grow)]
-pub(crate) fn grow(
+fn grow(
     alloc: Global,
     letters: &mut Letters,
     level: u32,

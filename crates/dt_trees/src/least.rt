@@ -9,7 +9,7 @@ ghost use Rattle.dt_letters.specs.Text.{AreListed};
 ghost use Rattle.dt_letters.specs.Arena.{IsExtended, IsTreeOf, letter_in};
 ghost use Rattle.dt_trees.specs.Polynomials.{IsOver};
 
-use crate::growing::grow;
+use crate::from_nothing::ways_from_nothing;
 use crate::grown::Grown;
 use dt_letters::{Letters, Tree};
 use nil_pres::Memory;
@@ -44,8 +44,7 @@ pub fn least_trees(
     ensures sorted { IfOk result (λ v. AreListed (map (letter_in letters.new) v.items)) }
 {
     let _generators = letters.pres().count();
-    let stack = Vec::new(alloc);
-    let ways = grow(alloc, letters, level, &stack, k)?;
+    let ways = ways_from_nothing(alloc, letters, level, k)?;
     let trees = trees_of(alloc, &ways)?;
     letters.sorted(alloc, &trees)
 }

@@ -2,6 +2,7 @@
 #![tactic(auto)]
 
 mod constants;
+mod from_nothing;
 mod grouping;
 mod growing;
 mod grown;

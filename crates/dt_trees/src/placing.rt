@@ -168,5 +168,7 @@ pub(crate) fn place(
     if !has_room(limit, most) {
         return Ok(());
     }
-    put_all_anew(alloc, letters, member, most + 1, stack, ways)
+    put_all_anew(alloc, letters, member, most, stack, ways)?;
+    // Above the greatest number nothing has to be raised.
+    put_again(alloc, letters, member, most + 1, stack, ways)
 }

@@ -1,6 +1,6 @@
 //! Groups of letters: raising the numbers of one, and the greatest of them.
 
-ghost use Rattle.std.specs.Prelude.{◌≡◌, ◌-◌, ◌^◌, ◌<◌, IfOk};
+ghost use Rattle.std.specs.Prelude.{◌≡◌, ℕ, ◌-◌, ◌^◌, ◌<◌, IsTrue, IfOk};
 
 use super::Letters;
 use crate::form::Form;
@@ -25,20 +25,35 @@ impl Letters {
             (raised (group_of (letter_in self.old member)) (number_of (letter_in self.old member))
             (letter_in self.old a))) }
     {
+        if self.is_early(a, member) {
+            return Ok(a);
+        }
         let number = self.raised_number(a, member);
         match self.form(a) {
-            Form::Leaf { side, kind, .. } => self.put(Form::Leaf { side, kind, number }),
+            Form::Leaf {
+                side,
+                kind,
+                number: own,
+            } => {
+                if number == own {
+                    return Ok(a);
+                }
+                self.put(Form::Leaf { side, kind, number })
+            }
             Form::Node {
                 left,
                 right,
                 kind,
-                ..
+                number: own,
             } => {
-                let left = self.raise(left, member)?;
-                let right = self.raise(right, member)?;
+                let low = self.raise(left, member)?;
+                let high = self.raise(right, member)?;
+                if number == own && self.same(low, left) && self.same(high, right) {
+                    return Ok(a);
+                }
                 self.put(Form::Node {
-                    left,
-                    right,
+                    left: low,
+                    right: high,
                     kind,
                     number,
                 })
@@ -53,6 +68,9 @@ impl Letters {
         ensures { result ≡ greatest_in (group_of (letter_in self.now member))
             (letter_in self.now a) }
     {
+        if self.is_early(a, member) {
+            return 0;
+        }
         let own = self.own_number(a, member);
         match self.form(a) {
             Form::Leaf { .. } => own,
@@ -61,6 +79,22 @@ impl Letters {
                 let high = self.greatest(right, member);
                 own.max(low.max(high))
             }
+        }
+    }
+
+    /// Whether the letter stands before a half of a member. Then the group isn't in it.
+    fn is_early(&self, a: Tree, member: Tree) -> bool
+        requires first { IsTreeOf self.now a }
+        requires second { IsTreeOf self.now member }
+        ensures raised { IsTrue result → (n : ℕ) → raised (group_of (letter_in self.now member)) n
+            (letter_in self.now a) ≡ letter_in self.now a }
+        ensures greatest { IsTrue result → greatest_in (group_of (letter_in self.now member))
+            (letter_in self.now a) ≡ 0 }
+    {
+        let _forms = &self.forms;
+        match self.form(member) {
+            Form::Leaf { .. } => false,
+            Form::Node { left, right, .. } => a.place <= left.place || a.place <= right.place,
         }
     }
 

@@ -1,19 +1,19 @@
 -- Growing by types, pair by pair and left letter by left letter.
-use Rattle.std.proofs.Common.{◌≡◌, ℕ, ◌^◌, ◌+◌, ◌-◌, ◌∙◌, List, [], ◌++◌, map, length, sym, ap, subst, arith, rules, ℤ, w64, to_z, of_z, FitsSigned}
+use Rattle.std.proofs.Common.{◌≡◌, ℕ, ◌^◌, ◌+◌, ◌-◌, ◌∙◌, List, [], ◌++◌, map, sym, ap, subst, arith, rules, ℤ, w64, to_z, of_z, FitsSigned}
 use Rattle.std.specs.Prelude.{All, OnOk}
 use Rattle.std.proofs.lemmas.Int.{to_z-of_z}
-use Rattle.std.proofs.lemmas.Iterator.Consumers.{YieldsList-turn}
-use Rattle.std.proofs.lemmas.Iterator.Adapters.{YieldsList-from_vec}
+use Rattle.std.proofs.lemmas.List.{take_all}
 use Rattle.dt_letters.specs.Allowed.{exponents_of}
 use Rattle.dt_letters.specs.Growth.{AreBelow, most_steps}
 use Rattle.dt_letters.specs.Listing.{Grew, each, joined, upto}
 use Rattle.dt_letters.proofs.Different.{extended-trans}
-use Rattle.dt_trees.specs.Ways.{stack_in, grown_in, Gains, AreWays, FitsFor, IsSmall, leaf_ways, rights_of, pair_ways}
+use Rattle.dt_trees.specs.declared.grown.Grown.{Grown}
+use Rattle.dt_trees.specs.Ways.{stack_in, grown_in, IsWay, Gains, AreWays, FitsFor, IsSmall, leaf_ways, rights_of, pair_ways}
 use Rattle.dt_trees.proofs.Depth.{grown-ways}
 use Rattle.dt_trees.proofs.Small.{all_below-more}
 use Rattle.dt_trees.proofs.Stacks.{trees-kept, small-kept}
 use Rattle.dt_trees.proofs.Gaining.{gains-before, gains-same, ways-gained, on_ok}
-use Rattle.dt_trees.proofs.Joining.{way-at, grew-at, gains-each}
+use Rattle.dt_trees.proofs.Joining.{way-at, grew-at, gains-each-next}
 use Rattle.dt_trees.proofs.Pairs.{pushed-trees, pushed-stack, rights-small, lefts-small, half-small, rights-same, gains-pair, pair-kept, next-joined, gains-joined}
 use Rattle.dt_trees.proofs.growing.+grow.Goals as goal
 
@@ -135,11 +135,13 @@ grow_pair-grow_rights-requires t c = (
         (
           c.requires.most,
           (
-            c.in_ok-lefts.ensures.ways.ways,
-            subst (All (FitsFor c.args.q)) (sym c.in_ok-lefts.ensures.ways.are)
+            subst (All (IsWay c.grow.new.letters)) (sym c.deref.ensures.value) c.in_ok-lefts.ensures.ways.ways,
+            subst (λ (ls : List Grown). All (FitsFor c.args.q) (map (grown_in c.grow.new.letters) ls))
+                (sym c.deref.ensures.value)
+                (subst (All (FitsFor c.args.q)) (sym c.in_ok-lefts.ensures.ways.are)
                 (lefts-small (exponents_of c.args.letters.now.pres) c.args.level c.args.k c.args.p c.args.q
                 (stack_in c.args.letters.now c.args.stack.now) c.requires.most c.requires.below (omega arith)
-                c.requires.small),
+                c.requires.small)),
           ),
         ),
       ),
@@ -154,28 +156,27 @@ grow_pair-returns-clause-gains t c =
     let d = c.grow_rights.new.letters in
     let limit = c.exponent-limit.result in
     let fits : FitsSigned w64 limit = search rules in
-    let got : ℤ → Type 0 = λ z. Gains b c.args.ways.now.items d c.grow_rights.new.ways.items
-    (each (rights_of (exponents_of b.pres) c.args.level c.args.q c.args.k z)
-    (map (grown_in b) c.in_ok-lefts.lefts.items)) in
-    on_ok c.grow_rights.result (got limit)
+    let got : ℤ → List Grown → Type 0 = λ z ls. Gains b c.args.ways.now.items d c.grow_rights.new.ways.items
+    (each (rights_of (exponents_of b.pres) c.args.level c.args.q c.args.k z) (map (grown_in b) ls)) in
+    on_ok c.grow_rights.result (got limit c.in_ok-lefts.lefts.items)
     (Gains a c.args.ways.now.items d c.grow_rights.new.ways.items
     (pair_ways (exponents_of a.pres) c.args.level (stack_in a c.args.stack.now) c.args.k c.args.p c.args.q))
     (gains-pair a b d c.grow.ensures.kept c.args.ways.now.items c.grow_rights.new.ways.items
     c.in_ok-lefts.lefts.items c.args.level c.args.k c.args.p c.args.q limit
     (stack_in a c.args.stack.now) c.exponent-limit.ensures
     (λ e. c.if-limit-eq0.false (ap (of_z w64) e)) c.in_ok-lefts.ensures.ways)
-    (subst (λ (z : ℤ). OnOk c.grow_rights.result (got z)) (to_z-of_z w64 limit fits) c.grow_rights.ensures.gains)
+    (subst (λ (z : ℤ). OnOk c.grow_rights.result (got z c.in_ok-lefts.lefts.items)) (to_z-of_z w64 limit fits)
+    (subst (λ (ls : List Grown). OnOk c.grow_rights.result (got (to_z w64 (of_z w64 limit)) ls))
+    c.deref.ensures.value c.grow_rights.ensures.gains))
 
 pub grow_rights-grow-requires : goal.grow_rights-grow-requires
 grow_rights-grow-requires t c =
     let a = c.args.letters.now in
     let b = c.loop-left.letters in
-    let g = c.into_iter-left-iterator.ensures.into_iter_gives in
-    let turn = YieldsList-turn (YieldsList-from_vec {s = c.into_iter-left-iterator.result} c.args.lefts.items g.0 (omega arith)) c.loop-left.yielded
-    c.loop-left.left-iterator c.loop-left.yielded_by c.next.result c.next.new.self c.in-Some.left c.in-Some.is c.next.ensures.steps in
-    let w = way-at a c.args.lefts.items (length c.loop-left.yielded) c.in-Some.left c.requires.ways turn.0 turn.1 in
-    let small = grew-at (FitsFor c.args.q) a c.args.lefts.items (length c.loop-left.yielded) c.in-Some.left
-    c.requires.small turn.0 turn.1 in (
+    let i = c.loop-left.left-index in
+    let left = c.left-item.result in
+    let w = way-at a c.args.lefts.now i left c.requires.ways (omega arith) c.left-item.is in
+    let small = grew-at (FitsFor c.args.q) a c.args.lefts.now i left c.requires.small (omega arith) c.left-item.is in (
       omega arith,
       (
         c.requires.level,
@@ -184,11 +185,11 @@ grow_rights-grow-requires t c =
           (
             omega arith,
             (
-              pushed-trees a b c.loop-left.invariant.kept c.in-Some.left w c.push.new.self.items
-                  c.deref.result.now c.in_ok-push.ensures.items c.deref.ensures.value,
+              pushed-trees a b c.loop-left.invariant.kept left w c.in_ok-list.list.items c.deref.result.now
+                  c.in_ok-list.ensures c.deref.ensures.value,
               subst (AreBelow (2 ^ 63 - most_steps c.args.q))
-                  (sym (pushed-stack a b c.loop-left.invariant.kept c.in-Some.left w c.push.new.self.items
-                  c.deref.result.now c.in_ok-push.ensures.items c.deref.ensures.value)) small,
+                  (sym (pushed-stack a b c.loop-left.invariant.kept left w c.in_ok-list.list.items
+                  c.deref.result.now c.in_ok-list.ensures c.deref.ensures.value)) small,
             ),
           ),
         ),
@@ -204,17 +205,15 @@ pub grow_rights-join_all-requires-clause-small : goal.grow_rights-join_all-requi
 grow_rights-join_all-requires-clause-small t c =
     let a = c.args.letters.now in
     let b = c.loop-left.letters in
-    let g = c.into_iter-left-iterator.ensures.into_iter_gives in
-    let turn = YieldsList-turn (YieldsList-from_vec {s = c.into_iter-left-iterator.result} c.args.lefts.items g.0 (omega arith)) c.loop-left.yielded
-    c.loop-left.left-iterator c.loop-left.yielded_by c.next.result c.next.new.self c.in-Some.left c.in-Some.is c.next.ensures.steps in
-    let w = way-at a c.args.lefts.items (length c.loop-left.yielded) c.in-Some.left c.requires.ways turn.0 turn.1 in
-    let small = grew-at (FitsFor c.args.q) a c.args.lefts.items (length c.loop-left.yielded) c.in-Some.left
-    c.requires.small turn.0 turn.1 in
+    let i = c.loop-left.left-index in
+    let left = c.left-item.result in
+    let w = way-at a c.args.lefts.now i left c.requires.ways (omega arith) c.left-item.is in
+    let small = grew-at (FitsFor c.args.q) a c.args.lefts.now i left c.requires.small (omega arith) c.left-item.is in
     subst (All IsSmall) (sym c.in_ok-rights.ensures.ways.are)
     (rights-small (exponents_of b.pres) c.args.level c.args.q (stack_in b c.deref.result.now) (omega arith)
     (subst (AreBelow (2 ^ 63 - most_steps c.args.q))
-    (sym (pushed-stack a b c.loop-left.invariant.kept c.in-Some.left w c.push.new.self.items
-    c.deref.result.now c.in_ok-push.ensures.items c.deref.ensures.value)) small))
+    (sym (pushed-stack a b c.loop-left.invariant.kept left w c.in_ok-list.list.items
+    c.deref.result.now c.in_ok-list.ensures c.deref.ensures.value)) small))
 
 pub grow_rights-returns-in_err-join_all-clause-kept : goal.grow_rights-returns-in_err-join_all-clause-kept
 grow_rights-returns-in_err-join_all-clause-kept t c =
@@ -228,24 +227,34 @@ grow_rights-loop-left-preserved t c =
     let b = c.loop-left.letters in
     let d = c.grow.new.letters in
     let z = to_z w64 (of_z w64 c.args.limit) in
-    let g = c.into_iter-left-iterator.ensures.into_iter_gives in
-    let turn = YieldsList-turn (YieldsList-from_vec {s = c.into_iter-left-iterator.result} c.args.lefts.items g.0 (omega arith)) c.loop-left.yielded
-    c.loop-left.left-iterator c.loop-left.yielded_by c.next.result c.next.new.self c.in-Some.left c.in-Some.is c.next.ensures.steps in
-    let w = way-at a c.args.lefts.items (length c.loop-left.yielded) c.in-Some.left c.requires.ways turn.0 turn.1 in
+    let i = c.loop-left.left-index in
+    let left = c.left-item.result in
+    let w = way-at a c.args.lefts.now i left c.requires.ways (omega arith) c.left-item.is in
     let more = each (λ r. joined (exponents_of d.pres) c.args.k z r.tree r.list)
     (map (grown_in d) c.in_ok-rights.rights.items) in
     record {
       kept = extended-trans a b c.join_all.new.letters c.loop-left.invariant.kept
           (extended-trans b d c.join_all.new.letters c.grow.ensures.kept c.join_all.ensures.kept);
-      gains = gains-each a b c.join_all.new.letters c.args.ways.now.items c.loop-left.ways.items
-          c.join_all.new.ways.items c.loop-left.yielded c.in-Some.left
-          (rights_of (exponents_of a.pres) c.args.level c.args.q c.args.k z) more
+      gains = gains-each-next a b c.join_all.new.letters c.args.ways.now.items c.loop-left.ways.items
+          c.join_all.new.ways.items c.args.lefts.now i left
+          (rights_of (exponents_of a.pres) c.args.level c.args.q c.args.k z) more (omega arith) c.left-item.is
           (rights-same a b d c.loop-left.invariant.kept c.grow.ensures.kept c.args.level c.args.q c.args.k
-          z c.in_ok-rights.rights.items c.deref.result.now (grown_in a c.in-Some.left)
-          (pushed-stack a b c.loop-left.invariant.kept c.in-Some.left w c.push.new.self.items
-          c.deref.result.now c.in_ok-push.ensures.items c.deref.ensures.value)
+          z c.in_ok-rights.rights.items c.deref.result.now (grown_in a left)
+          (pushed-stack a b c.loop-left.invariant.kept left w c.in_ok-list.list.items
+          c.deref.result.now c.in_ok-list.ensures c.deref.ensures.value)
           c.in_ok-rights.ensures.ways)
           c.loop-left.invariant.gains
           (gains-before b d c.join_all.new.letters c.loop-left.ways.items c.join_all.new.ways.items more
           c.grow.ensures.kept c.in_ok-join_all.ensures.gains);
     }
+
+pub grow_rights-returns-clause-gains : goal.grow_rights-returns-clause-gains
+grow_rights-returns-clause-gains t c =
+    let a = c.args.letters.now in
+    let limit = c.args.limit in
+    let fits : FitsSigned w64 limit = search rules in
+    let got : ℤ → List Grown → Type 0 = λ z done. Gains a c.args.ways.now.items c.loop-left.letters c.loop-left.ways.items
+    (each (rights_of (exponents_of a.pres) c.args.level c.args.q c.args.k z) (map (grown_in a) done)) in
+    subst (λ (z : ℤ). got z c.args.lefts.now) (to_z-of_z w64 limit fits)
+    (subst (got (to_z w64 (of_z w64 limit)))
+    (take_all c.loop-left.left-index c.args.lefts.now c.loop-left-test.false) c.loop-left.invariant.gains)

@@ -1,4 +1,4 @@
-use Rattle.std.proofs.Common.{◌+◌, ◌-◌, [], ◌++◌, map}
+use Rattle.std.proofs.Common.{◌+◌, ◌-◌, [], ◌++◌, map, take}
 use Rattle.dt_letters.specs.Allowed.{exponents_of}
 use Rattle.dt_letters.specs.Listing.{each, upto}
 use Rattle.dt_letters.specs.Arena.{IsExtended}
@@ -19,7 +19,7 @@ invariant-grow_rights-loop-left l = record {
   kept : IsExtended l.fn.letters l.letters;
   gains : Gains l.fn.letters l.fn.ways.items l.letters l.ways.items
       (each (rights_of (exponents_of l.fn.letters.pres) l.level l.q l.k l.limit)
-      (map (grown_in l.fn.letters) l.yielded));
+      (map (grown_in l.fn.letters) (take l.left-index l.lefts)));
 }
 
 abbrev pub invariant-grow-loop-p : goal.invariant-grow-loop-p

@@ -1,11 +1,13 @@
 -- One polynomial after the other; the first that overflows ends the list.
-use Rattle.std.proofs.Common.{◌≡◌, ◌∙◌, ◌+◌, ◌++◌, ◌∷◌, [], List, length, sym, ap, subst, arith}
+use Rattle.std.proofs.Common.{◌≡◌, ℕ, ◌∙◌, ◌+◌, ◌++◌, ◌∷◌, [], List, length, sym, ap, subst, arith}
 use Rattle.binom_poly.specs.declared.term.Term.{Term}
 use Rattle.nil_pres.specs.Presented.{Presented}
 use Rattle.dt_letters.specs.Allowed.{exponents_of}
 use Rattle.dt_letters.specs.Listing.{trees}
 use Rattle.dt_letters.proofs.Different.{extended-trans, extended-refl}
 use Rattle.dt_trees.specs.Polynomials.{TreesOverflow, poly_of, polys_of}
+use Rattle.dt_trees.specs.Known.{AreKnown}
+use Rattle.dt_trees.proofs.Knowing.{known-none}
 use Rattle.dt_trees.proofs.Refusals.{at_wide}
 use Rattle.dt_trees.proofs.Taken.{polys-none, polys-next, fit-next}
 use Rattle.dt_trees.proofs.levels.tree_polys.Goals as goal
@@ -14,6 +16,10 @@ pub loop-place-init : goal.loop-place-init
 loop-place-init c = record {
   kept = extended-refl c.args.letters.now;
   polys = c.new-polys.ensures.items ∙ sym (polys-none (exponents_of c.args.letters.now.pres) c.args.level);
+  known = subst (AreKnown c.args.letters.now (exponents_of c.args.letters.now.pres) c.args.level)
+      (sym c.new-known.ensures.items)
+      (known-none c.args.letters.now (exponents_of c.args.letters.now.pres) c.args.level);
+  count = ap length c.new-known.ensures.items;
   fit = λ p. absurd (omega (arith, p.1));
 }
 
@@ -57,5 +63,7 @@ loop-place-preserved c =
       polys = c.in_ok-push-in-Ok.ensures.items
           ∙ ap (λ (ps : List (List Term)). ps ++ poly ∷ []) c.loop-place.invariant.polys
           ∙ ap (λ (p : List Term). polys_of e level i ++ p ∷ []) is.0 ∙ sym (polys-next e level i);
+      known = c.in-Ok.ensures.known;
+      count = c.in-Ok.ensures.count ∙ ap (λ (n : ℕ). n + 1) c.loop-place.invariant.count;
       fit = fit-next e level i c.loop-place.invariant.fit is.1;
     }
