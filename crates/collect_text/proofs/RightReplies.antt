@@ -14,8 +14,9 @@ use Rattle.left_collect.specs.Collected.{collection}
 use Rattle.word_text.specs.declared.query_fault.QueryFault.{QueryFault}
 use Rattle.word_text.specs.Lines.{ReadsAs, FailsWith}
 use Rattle.word_text.specs.Reading.{reading}
+use Rattle.session_io.specs.Limits.{line_limit}
 use Rattle.session_io.specs.Lines.{as_line}
-use Rattle.collect_text.specs.Limits.{line_limit, letter_limit}
+use Rattle.collect_text.specs.Limits.{letter_limit}
 use Rattle.collect_text.specs.Replies.{vector_reply, query_reply, reply_to, reply}
 use Rattle.collect_text.specs.Right.{IsQuery, IsElement, IsCollected, long, faulty, blank, kind, long_word, steps, vector}
 use Rattle.collect_text.proofs.Inside.{unrolled_in}

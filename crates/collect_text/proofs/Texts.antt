@@ -12,8 +12,9 @@ use Rattle.word_text.specs.declared.query_fault.QueryFault.{QueryFault}
 use Rattle.word_text.specs.FaultTexts.{fault_text}
 use Rattle.word_text.specs.Reading.{reading}
 use Rattle.word_text.specs.Vectors.{text_of_entries}
+use Rattle.session_io.specs.Limits.{line_limit}
 use Rattle.session_io.specs.Lines.{as_line, EndsAtLine}
-use Rattle.collect_text.specs.Limits.{line_limit, letter_limit}
+use Rattle.collect_text.specs.Limits.{letter_limit}
 use Rattle.collect_text.specs.Replies.{vector_reply, word_reply, query_reply, reply_to, reply}
 
 EndsAtLine-cond : (b : Bool) (t r : List ℕ) → EndsAtLine r → EndsAtLine (cond b (as_line t) r)

@@ -19,8 +19,9 @@ use Rattle.word_text.specs.declared.query_fault.QueryFault.{QueryFault}
 use Rattle.word_text.specs.FaultTexts.{fault_text}
 use Rattle.word_text.specs.Reading.{reading}
 use Rattle.word_text.specs.Vectors.{text_of_entries}
+use Rattle.session_io.specs.Limits.{line_limit}
 use Rattle.session_io.specs.Lines.{as_line}
-use Rattle.collect_text.specs.Limits.{line_limit, letter_limit}
+use Rattle.collect_text.specs.Limits.{letter_limit}
 
 abbrev pub vector_reply : Option (List ℤ) → List ℕ
 vector_reply (Some v) = as_line (text_of_entries v)

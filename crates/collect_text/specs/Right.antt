@@ -24,8 +24,9 @@ use Rattle.word_text.specs.declared.query_fault.QueryFault.{QueryFault}
 use Rattle.word_text.specs.FaultTexts.{fault_text}
 use Rattle.word_text.specs.Lines.{ReadsAs, FailsWith}
 use Rattle.word_text.specs.Vectors.{text_of_entries}
+use Rattle.session_io.specs.Limits.{line_limit}
 use Rattle.session_io.specs.Lines.{as_line}
-use Rattle.collect_text.specs.Limits.{line_limit, letter_limit}
+use Rattle.collect_text.specs.Limits.{letter_limit}
 
 pub record IsQuery (p : Presented) (line : List ℕ) (q : Query) : Type 0 where
   pub within : length line ≤ line_limit

@@ -25,12 +25,15 @@ impl Model for Collector {
 
 impl Replier for Collector {
     ghost use Rattle.collect_text.specs.Replies.{reply};
+    ghost use Rattle.collect_text.specs.LongLines.{reply-held};
 
     ghost reply = { λ p. reply p };
 
     fn reply_to(&mut self, alloc: Global, line: &[u8]) -> Result<String, AllocError> {
         reply_to(alloc, &self.pres, line)
     }
+
+    ghost settled = { reply-held };
 }
 
 impl Collector {

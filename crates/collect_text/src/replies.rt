@@ -10,11 +10,12 @@ ghost use Rattle.session_io.specs.Lines.{as_line};
 ghost use Rattle.collect_text.specs.Limits.{letter_limit};
 ghost use Rattle.collect_text.specs.Replies.{word_reply, query_reply, reply};
 
-use super::limits::{LETTER_LIMIT, LINE_LIMIT};
+use super::limits::LETTER_LIMIT;
 use left_collect::{CollectFault, collect};
 use line_tokens::without_return;
 use nil_pres::Presentation;
 use nil_word::{Expr, Query, UnrollFault, Vector, Word, unroll};
+use session_io::LINE_LIMIT;
 use std::alloc::{AllocError, Global};
 use word_text::laws::readings;
 use word_text::{QueryFault, read_query, vector_text};

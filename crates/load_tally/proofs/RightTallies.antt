@@ -16,7 +16,7 @@ use Rattle.group_eval.specs.declared.reply.Reply.TheVariants as reply
 use Rattle.group_eval.specs.Queries.{answered, IsWide}
 use Rattle.group_eval.specs.Right.{IsRightReply}
 use Rattle.group_eval.specs.Laws.{OfChecked, AnsweredIs}
-use Rattle.query_replies.specs.Limits.{line_limit}
+use Rattle.session_io.specs.Limits.{line_limit}
 use Rattle.query_replies.specs.Replies.{found_reply, reply_of}
 use Rattle.query_replies.specs.Right.{IsQuery}
 use Rattle.load_tally.specs.Answers.{IsAnswerTo, none, wide, right, AreAnswersTo, answers_to}

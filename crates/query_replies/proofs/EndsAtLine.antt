@@ -9,8 +9,8 @@ use Rattle.hall_table.specs.Multiplies.{Paired}
 use Rattle.group_eval.specs.declared.reply.Reply.{Reply}
 use Rattle.group_eval.specs.declared.reply.Reply.TheVariants as reply_kind
 use Rattle.group_eval.specs.Queries.{answered}
+use Rattle.session_io.specs.Limits.{line_limit}
 use Rattle.session_io.specs.Lines.{as_line, EndsAtLine}
-use Rattle.query_replies.specs.Limits.{line_limit}
 use Rattle.query_replies.specs.Replies.{reply_text, line_of, reply_to, reply}
 
 EndsAtLine-line_of : (r : Reply) → EndsAtLine (line_of r)

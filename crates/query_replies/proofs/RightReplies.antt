@@ -16,8 +16,8 @@ use Rattle.group_eval.specs.declared.reply.Reply.TheVariants as reply_kind
 use Rattle.group_eval.specs.Queries.{answered, IsWide}
 use Rattle.group_eval.specs.Right.{IsRightReply}
 use Rattle.group_eval.specs.Laws.{OfChecked, AnsweredIs}
+use Rattle.session_io.specs.Limits.{line_limit}
 use Rattle.session_io.specs.Lines.{as_line}
-use Rattle.query_replies.specs.Limits.{line_limit}
 use Rattle.query_replies.specs.Replies.{line_of, reply_to, reply}
 use Rattle.query_replies.specs.Right.{IsQuery, IsReply, long, faulty, wide, right}
 

@@ -1,3 +1,3 @@
-pub mod Limits
 pub mod Replies
+pub mod LongLines
 pub mod Right

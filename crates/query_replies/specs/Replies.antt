@@ -18,8 +18,8 @@ use Rattle.hall_table.specs.Multiplies.{Paired}
 use Rattle.group_eval.specs.declared.reply.Reply.{Reply}
 use Rattle.group_eval.specs.declared.reply.Reply.TheVariants as reply_kind
 use Rattle.group_eval.specs.Queries.{answered}
+use Rattle.session_io.specs.Limits.{line_limit}
 use Rattle.session_io.specs.Lines.{as_line}
-use Rattle.query_replies.specs.Limits.{line_limit}
 
 abbrev pub reply_text : Reply → List ℕ
 reply_text (reply_kind.Vector v) = text_of_entries v

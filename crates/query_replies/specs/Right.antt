@@ -16,8 +16,8 @@ use Rattle.hall_table.specs.Multiplies.{Paired}
 use Rattle.group_eval.specs.declared.reply.Reply.{Reply}
 use Rattle.group_eval.specs.Queries.{IsWide}
 use Rattle.group_eval.specs.Right.{IsRightReply}
+use Rattle.session_io.specs.Limits.{line_limit}
 use Rattle.session_io.specs.Lines.{as_line}
-use Rattle.query_replies.specs.Limits.{line_limit}
 use Rattle.query_replies.specs.Replies.{line_of}
 
 pub record IsQuery (p : Presented) (line : List ℕ) (q : Query) : Type 0 where

@@ -36,12 +36,15 @@ impl Model for Calculator {
 
 impl Replier for Calculator {
     ghost use Rattle.query_replies.specs.Replies.{reply};
+    ghost use Rattle.query_replies.specs.LongLines.{reply-held};
 
     ghost reply = { λ c. reply c };
 
     fn reply_to(&mut self, alloc: Global, line: &[u8]) -> Result<String, AllocError> {
         reply_to(alloc, self, line)
     }
+
+    ghost settled = { reply-held };
 }
 
 impl Calculator {

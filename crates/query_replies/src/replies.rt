@@ -8,12 +8,10 @@ ghost use Rattle.query_replies.specs.Replies.{line_of, reply, reply_of};
 use super::calculator::Calculator;
 use group_eval::Reply;
 use line_tokens::without_return;
+use session_io::LINE_LIMIT;
 use std::alloc::{AllocError, Global};
 use word_text::laws::readings;
 use word_text::{QueryFault, read_query, vector_text};
-
-/// The greatest number of bytes of a query line.
-const LINE_LIMIT: usize = 65536;
 
 /// The reply to a line, or nothing where it isn't a query.
 pub(crate) fn reply_of(

@@ -11,4 +11,4 @@ abbrev pub table_limit : ℕ
 table_limit = 16777216
 
 abbrev pub query_limit : ℕ
-query_limit = 16777216
+query_limit = 4294967296

@@ -7,4 +7,4 @@ pub(crate) const FILE_LIMIT: u64 = 4194304;
 pub(crate) const TABLE_LIMIT: u64 = 16777216;
 
 /// The greatest number of query bytes.
-pub(crate) const QUERY_LIMIT: u64 = 16777216;
+pub(crate) const QUERY_LIMIT: u64 = 4294967296;

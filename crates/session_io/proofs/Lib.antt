@@ -1,6 +1,10 @@
 pub mod Appending
 pub mod Lines
+pub mod Unended
+pub mod Holding
 pub mod Stopping
 pub mod Answered
+pub mod PieceByPiece
 pub mod Promising
+pub mod ReadSoFar
 pub mod Weakening

@@ -1,6 +1,9 @@
 pub mod Asked
 pub mod Files
+pub mod Limits
 pub mod Lines
 pub mod Taking
 pub mod Answers
+pub mod Holding
+pub mod Reading
 pub mod Stops

@@ -2,6 +2,7 @@
 
 ghost use Rattle.std.specs.Prelude.{◌≡◌, ℕ, List, string_bytes, IfOk};
 ghost use Rattle.session_io.specs.Lines.{EndsAtLine};
+ghost use Rattle.session_io.specs.Holding.{held};
 
 use std::alloc::{AllocError, Global};
 
@@ -15,4 +16,7 @@ pub trait Replier {
         ensures text { IfOk result (λ text. string_bytes text ≡ reply self.old line.now) }
         ensures at_line { IfOk result (λ text. EndsAtLine (string_bytes text)) }
         ensures same { reply self.new ≡ reply self.old };
+
+    /// What a long line has behind the bytes that are held of it changes no reply.
+    ghost settled: { (s : Self) (line : List ℕ) → reply s (held line) ≡ reply s line };
 }

@@ -18,6 +18,8 @@ mod long;
 #[cfg(test)]
 mod own;
 #[cfg(test)]
+mod pieces;
+#[cfg(test)]
 mod proposers;
 #[cfg(test)]
 mod refusals;

@@ -30,9 +30,9 @@ fn a_line_above_the_limit_is_long(rt: HostRuntime) -> Result<(), Fail> {
     let mut line = vec![in rt.alloc(); b' '; 65536]?;
     let within = answered(rt.alloc(), HEISENBERG.as_bytes(), &line)?;
     assert_eq!(rt; within.bytes.as_slice(), b"".as_slice());
-    line.push(b' ')?;
+    line.extend_from_slice(b" \na1")?;
     let above = answered(rt.alloc(), HEISENBERG.as_bytes(), &line)?;
-    assert_eq!(rt; above.bytes.as_slice(), b"long\n".as_slice());
+    assert_eq!(rt; above.bytes.as_slice(), b"long\n1 0 0\n".as_slice());
     assert_eq!(rt; above.status.number(), 0);
     Ok(())
 }

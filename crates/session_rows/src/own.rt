@@ -3,10 +3,13 @@
 ghost use Rattle.std.specs.Prelude.{ℕ, List, None};
 ghost use Rattle.std.specs.declared.option.Option.{Option};
 
-use super::fixtures::{HEISENBERG, shelf_of, source_of, words_of};
+use super::fixtures::{HEISENBERG, source_of, words_of};
+use collect_text::Collector;
 use nil_io::{Failed, MemorySink, Shelf, ShelfFault, Source, SureShelf, SureSink, SureSource};
+use pres_text::read;
 use query_session::session;
-use std::alloc::{AllocError, Global};
+use session_io::answer_source;
+use std::alloc::Global;
 use std::test::Fail;
 
 /// A shelf that finds no memory for any file. It tells nothing.
@@ -95,33 +98,27 @@ impl Source for Letters {
     }
 }
 
-/// The status' number and the output of a session over a source.
-fn over<S: Source>(alloc: Global, source: &mut S) -> Result<(u8, Vec<u8>), AllocError> {
-    let words = words_of(alloc, &["run", "f"])?;
-    let mut shelf = shelf_of(alloc, HEISENBERG.as_bytes(), &[])?;
+/// What the collector writes for the lines of a source, up to the limit.
+fn over<S: Source>(alloc: Global, source: &mut S) -> Result<Vec<u8>, Fail> {
+    let mut collector = Collector::of(read(alloc, HEISENBERG.as_bytes())?);
     let room = Vec::with_capacity(alloc, 64)?;
     let mut sink = MemorySink::new(room, Vec::new(alloc));
-    let status = session(
-        alloc,
-        &words,
-        &mut shelf,
-        source,
-        &mut sink,
-        Vec::new(alloc),
-    );
-    Ok((status.number(), sink.bytes().to_vec(alloc)?))
+    let _end = answer_source(alloc, &mut collector, source, LIMIT, &mut sink);
+    Ok(sink.bytes().to_vec(alloc)?)
 }
 
-const COUNTS: [(u64, &str, u8); 2] = [(16777216, "long\n", 0), (16777217, "long input\n", 10)];
+/// A limit of bytes for the tests, above that of a line.
+const LIMIT: u64 = 70_000;
+
+const COUNTS: [(u64, &str); 2] = [(LIMIT, "long\n"), (70_001, "long input\n")];
 
 #[test]
 fn queries_of_the_limit_are_answered_and_more_are_long_input(rt: HostRuntime) -> Result<(), Fail> {
-    for (left, output, number) in COUNTS {
+    for (left, output) in COUNTS {
         let mut source = Letters { left, given: 0 };
-        let ended = over(rt.alloc(), &mut source)?;
-        assert_eq!(rt; ended.0, number);
-        assert_eq!(rt; ended.1.as_slice(), output.as_bytes());
-        assert!(rt; source.given <= 16777216 + 4096);
+        let written = over(rt.alloc(), &mut source)?;
+        assert_eq!(rt; written.as_slice(), output.as_bytes());
+        assert!(rt; source.given <= LIMIT + 4096);
     }
     Ok(())
 }
@@ -129,9 +126,8 @@ fn queries_of_the_limit_are_answered_and_more_are_long_input(rt: HostRuntime) ->
 #[test]
 fn a_source_without_an_end_is_long_input(rt: HostRuntime) -> Result<(), Fail> {
     let mut source = Endless { given: 0 };
-    let ended = over(rt.alloc(), &mut source)?;
-    assert_eq!(rt; ended.0, 10);
-    assert_eq!(rt; ended.1.as_slice(), b"0 0 1\nlong input\n".as_slice());
+    let written = over(rt.alloc(), &mut source)?;
+    assert_eq!(rt; written.as_slice(), b"0 0 1\nlong input\n".as_slice());
     Ok(())
 }
 

@@ -3,6 +3,7 @@ use Rattle.hall_table.specs.Multiplies.{Paired}
 use Rattle.query_replies.specs.Replies.{reply}
 use Rattle.query_replies.specs.Right.{IsReply}
 use Rattle.query_session.specs.Compiling.{IsRefused}
+use Rattle.query_session.specs.Limits.{query_limit}
 use Rattle.query_session.specs.Run.{IsOpened}
 use Rattle.query_session.proofs.CompileOpened.{compile_plain, IsReply-opened}
 use Rattle.query_session.proofs.Sessions.{IsRunOver-result, write_fault-result}
@@ -12,7 +13,7 @@ pub returns-clause-run : goal.returns-clause-run
 returns-clause-run g c =
     λ words.
     IsRunOver-result Paired (IsOpened _ c.args.pres.now) IsReply (IsRefused _ c.args.pres.now)
-    16777216 _ _ _ _ (compile_plain _ c.args.pres.now _) reply
+    query_limit _ _ _ _ (compile_plain _ c.args.pres.now _) reply
     (λ d h line. IsReply-opened c.right_replies.ensures _ c.args.pres.now _ d h line)
     _ c.open-opened.result (c.open-opened.ensures.opened words)
     (c.open-opened.ensures.refused words)

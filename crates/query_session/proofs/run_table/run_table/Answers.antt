@@ -2,6 +2,7 @@ use Rattle.std.proofs.Common.{[]}
 use Rattle.hall_table.specs.Multiplies.{Paired}
 use Rattle.query_replies.specs.Replies.{reply}
 use Rattle.query_replies.specs.Right.{IsReply}
+use Rattle.query_session.specs.Limits.{query_limit}
 use Rattle.query_session.specs.RunTable.{IsOpened, IsRefused}
 use Rattle.query_session.proofs.TableOpened.{run_table_plain}
 use Rattle.query_session.proofs.Sessions.{IsRunOver-result, write_fault-result}
@@ -11,7 +12,7 @@ pub returns-clause-run : goal.returns-clause-run
 returns-clause-run g c =
     λ words.
     IsRunOver-result Paired (IsOpened c.args.pres.now c.args.table.now) IsReply
-    (IsRefused c.args.pres.now c.args.table.now) 16777216 _ _ _ _
+    (IsRefused c.args.pres.now c.args.table.now) query_limit _ _ _ _
     (run_table_plain c.args.pres.now c.args.table.now _) reply
     (λ d h line. c.right_replies.ensures d line h.is.is_file.lawful
     h.is.accepted.says.says.table h.is.accepted.multiplies h.is.accepted.says.says.level)

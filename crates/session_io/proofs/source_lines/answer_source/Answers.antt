@@ -1,44 +1,50 @@
-use Rattle.std.proofs.Common.{ℕ, List, [], ◌∙◌, ap, subst, unwrap_or}
+use Rattle.std.proofs.Common.{ℕ, List, subst}
 use Rattle.std.proofs.lemmas.Result.{err_from_is_err_and}
 use Rattle.std.specs.Io.KnownBytes.{Appends}
-use Rattle.session_io.specs.Answers.{kept, answer_by}
+use Rattle.session_io.specs.Answers.{kept, last_piece}
 use Rattle.session_io.specs.Stops.{IsStopped}
-use Rattle.session_io.proofs.Promising.{IsAnswered-ok, IsAnswered-stopped, IsAnswered-none}
+use Rattle.session_io.proofs.Answered.{Appends-last, IsStopped-last}
+use Rattle.session_io.proofs.Promising.{IsAnswered-ok, IsAnswered-stopped}
+use Rattle.session_io.proofs.ReadSoFar.{IsAnswered-untaken}
 use Rattle.session_io.proofs.source_lines.answer_source.Goals as goal
 
-pub returns-in_err-end-clause-answered : goal.returns-in_err-end-clause-answered
-returns-in_err-end-clause-answered g c =
+pub returns-in_err-line-clause-answered : goal.returns-in_err-line-clause-answered
+returns-in_err-line-clause-answered g c =
     let p = err_from_is_err_and c.from_residual.result c.from_residual.ensures.1 in
-    rw (p.1, p.2) (IsAnswered-none (g.T.Replier.reply c.args.replier.now) c.args.limit _
-    c.take_all.new.bytes.items (unwrap_or (g.S.Source.left c.take_all.new.queries) [])
-    c.in_err-end.ensures.taken (g.K.Sink.written c.args.out.now))
+    rw (p.1, p.2) (IsAnswered-untaken (g.T.Replier.reply c.args.replier.now) c.args.limit
+    (g.S.Source.left c.args.queries.now) (g.S.Source.faults c.args.queries.now)
+    (g.S.Source.given c.args.queries.now) (g.K.Sink.written c.args.out.now))
 
-pub returns-in_err-answer_bytes-clause-answered : goal.returns-in_err-answer_bytes-clause-answered
-returns-in_err-answer_bytes-clause-answered g c =
+pub returns-in_err-answer_last-clause-answered : goal.returns-in_err-answer_last-clause-answered
+returns-in_err-answer_last-clause-answered g c =
     let reply = g.T.Replier.reply c.args.replier.now in
-    let old = g.K.Sink.written c.args.out.now in
-    let new = g.K.Sink.written c.answer_bytes.new.out in
+    let o = g.K.Sink.written c.args.out.now in
+    let m = g.K.Sink.written c.answer_pieces.new.out in
+    let n = g.K.Sink.written c.answer_last.new.out in
     let end = c.in_ok-end.end in
-    let s = c.in_err-answer_bytes.field-0.0 in
+    let read = c.in_ok-end.ensures.ok in
+    let a = read.answered in
+    let s = c.in_err-answer_last.field-0.0 in
     let p =
-    err_from_is_err_and c.from_residual-in_err-answer_bytes.result
-    c.from_residual-in_err-answer_bytes.ensures.1 in
-    rw (p.1, p.2) (IsAnswered-stopped reply c.args.limit _ c.take_all.new.bytes.items
-    (unwrap_or (g.S.Source.left c.take_all.new.queries) []) c.in_ok-end.ensures.taken end s old new
-    c.in_ok-end.ensures.ended
-    (subst (λ (bytes : List ℕ). IsStopped (answer_by reply end bytes) old new s)
-    (c.kept_of.ensures ∙ ap (kept c.args.limit end) c.deref.ensures.value)
-    c.in_err-answer_bytes.ensures.err))
+    err_from_is_err_and c.from_residual-in_err-answer_last.result
+    c.from_residual-in_err-answer_last.ensures.1 in
+    rw (p.1, p.2) (IsAnswered-stopped reply c.args.limit _ read.taken read.more read.took end s o n
+    read.ended
+    (IsStopped-last reply end (kept c.args.limit end read.taken) a.line o m a.last a.written n s
+    a.at_line
+    (subst (λ (by : List ℕ → List ℕ). IsStopped (last_piece by a.line end) m n s)
+    c.in_ok-end.ensures.same (c.in_err-answer_last.ensures.err a.line a.is_held.front))))
 
 pub returns-clause-answered : goal.returns-clause-answered
 returns-clause-answered g c =
     let reply = g.T.Replier.reply c.args.replier.now in
-    let old = g.K.Sink.written c.args.out.now in
-    let new = g.K.Sink.written c.answer_bytes.new.out in
+    let o = g.K.Sink.written c.args.out.now in
+    let m = g.K.Sink.written c.answer_pieces.new.out in
+    let n = g.K.Sink.written c.answer_last.new.out in
     let end = c.in_ok-end.end in
-    IsAnswered-ok reply c.args.limit _ c.take_all.new.bytes.items
-    (unwrap_or (g.S.Source.left c.take_all.new.queries) []) c.in_ok-end.ensures.taken end old new
-    c.in_ok-end.ensures.ended
-    (subst (λ (bytes : List ℕ). Appends old new (answer_by reply end bytes))
-    (c.kept_of.ensures ∙ ap (kept c.args.limit end) c.deref.ensures.value)
-    c.in_ok-answer_bytes.ensures.ok)
+    let read = c.in_ok-end.ensures.ok in
+    let a = read.answered in
+    IsAnswered-ok reply c.args.limit _ read.taken read.more read.took end o n read.ended
+    (Appends-last reply end (kept c.args.limit end read.taken) a.line o m a.last a.written n
+    (subst (λ (by : List ℕ → List ℕ). Appends m n (last_piece by a.line end))
+    c.in_ok-end.ensures.same (c.in_ok-answer_last.ensures.ok a.line a.is_held.front)))

@@ -1,0 +1,17 @@
+-- What is behind the bytes that are held of a long line changes no reply.
+--   reply-held   the reply to the bytes that are held of a line is the line's: a proof for the law of
+--                `Replier`
+use Rattle.std.proofs.Common.{◌≡◌, ℕ, List, codes}
+use Rattle.std.specs.Str.Lines.{strip_carriage_return}
+use Rattle.nil_pres.specs.Presented.{Presented}
+use Rattle.word_text.specs.Reading.{reading}
+use Rattle.session_io.specs.Lines.{as_line}
+use Rattle.session_io.specs.Holding.{held}
+use Rattle.session_io.proofs.Holding.{cond-held}
+use Rattle.collect_text.specs.Replies.{reply_to, reply}
+
+pub reply-held : (p : Presented) (line : List ℕ) → reply p (held line) ≡ reply p line
+unfolding reply
+reply-held p line =
+    cond-held (as_line (codes "long"))
+    (λ (l : List ℕ). reply_to p (reading p.names (strip_carriage_return l))) line
