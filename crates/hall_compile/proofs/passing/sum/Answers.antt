@@ -13,6 +13,6 @@ returns-in_ok-pres-in-Ok c =
     subst (λ (d : Paired). SumsUp c.args.above.now c.args.i (Chosen Sum d)) (sym c.new.ensures) (
       c.in_ok-pres-in-Ok.ensures ∙ sym c.requires.pres,
       sums c.args.above.now c.args.pres.now c.args.i c.in-Ok.table c.requires.pres table.stops
-          (subst IsTabled c.table.view_is c.table.invariant) table.level table.last table.values
+          (subst IsTabled c.table.view_is c.table.invariant.0) table.level table.last table.values
           table.multiplies,
     )
