@@ -28,6 +28,10 @@ pub fn add_fit(a: u128, b: u128) -> Result<u128, Past>
 pub fn mul_fit(a: u128, b: u128) -> Result<u128, Past>
     ensures { Unless (Overflows (a * b)) (a * b) result }
 {
+    // One multiplication of the machine.
+    if a < 1 << 63 && b < 1 << 64 {
+        return Ok(a * b);
+    }
     match a.checked_mul(b) {
         Some(product) if product <= MAX as u128 => Ok(product),
         _ => Err(Past),
