@@ -5,12 +5,11 @@ use Rattle.std.specs.Prelude.{unsigned_abs}
 use Rattle.std.specs.List.{list_any}
 use Rattle.std.proofs.lemmas.Bool.{cases_Bool, false≢true, le-leb, leb-true}
 use Rattle.nil_num.specs.Bound.{Overflows, overflows}
-use Rattle.nil_num.specs.Row.{written_product}
+use Rattle.nil_num.specs.Row.{written_product, RowOverflows}
 use Rattle.binom_poly.specs.declared.part.Part.{Part}
 use Rattle.binom_poly.specs.declared.term.Term.{Term}
 use Rattle.binom_poly.specs.Variable.{exponent_limit}
 use Rattle.binom_poly.specs.Monomial.{same_parts, same_parts_is}
-use Rattle.binom_poly.specs.Readings.{RowOverflows}
 use Rattle.binom_poly.specs.Weight.{weight, IsWide, HasLargePart, HasLargeExponent, DoOverflow}
 use Rattle.dt_letters.specs.Letters.{Letter, kind_of, Group, leaves, nodes}
 use Rattle.dt_letters.specs.Allowed.{Exponents}

@@ -23,7 +23,7 @@ use Rattle.std.specs.Prelude.{ℕ, zero, suc, reverse, ◌+◌, ◌-◌, ◌*◌
 use Rattle.binom_poly.specs.declared.part.Part.{Part}
 use Rattle.binom_poly.specs.declared.term.Term.{Term}
 use Rattle.binom_poly.specs.Variable.{side, x_of, y_of, exponent_limit}
-use Rattle.binom_poly.specs.Readings.{RowOverflows}
+use Rattle.nil_num.specs.Row.{RowOverflows}
 use Rattle.binom_poly.specs.Times.{contribution}
 use Rattle.binom_poly.specs.Weight.{DoOverflow}
 use Rattle.binom_poly.specs.Collected.{collected}

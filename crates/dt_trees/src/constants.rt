@@ -1,11 +1,9 @@
 //! Constants of trees: products of binomial coefficients of exponents.
 
 ghost use Rattle.std.specs.Prelude.{◌≡◌, ◌≢◌, ◌+◌, ◌≤◌, ◌⊎◌, All, pos, length, ◌*ℤ◌, unsigned_abs};
-ghost use Rattle.integer.specs.Binomial.{choose};
 ghost use Rattle.nil_num.specs.Bound.{Overflows};
 ghost use Rattle.nil_num.specs.Outcome.{Gives, Unless};
 ghost use Rattle.binom_poly.specs.Fault.{wide_of};
-ghost use Rattle.binom_poly.specs.Readings.{RowOverflows};
 ghost use Rattle.binom_poly.specs.Variable.{exponent_limit};
 ghost use Rattle.dt_letters.specs.Letters.{group_of};
 ghost use Rattle.dt_letters.specs.Allowed.{exponents_of, IsLetter};
@@ -16,11 +14,8 @@ ghost use Rattle.dt_trees.specs.Polynomials.{groups_over, FactorOverflows, SomeO
 use crate::grouping::put_groups;
 use binom_poly::{EXPONENT_LIMIT, PolyFault};
 use dt_letters::{Form, Letters, Tree};
-use nil_num::{Past, binomial_row};
+use nil_num::{Past, binomial};
 use std::alloc::Global;
-
-/// How many places a row has.
-pub(crate) const PLACES: usize = EXPONENT_LIMIT as usize + 1;
 
 /// The product, where it isn't too large.
 fn times(a: i128, b: i128) -> Result<i128, Past>
@@ -32,23 +27,10 @@ fn times(a: i128, b: i128) -> Result<i128, Past>
     }
 }
 
-/// A binomial coefficient, where no product in its row is too large.
-fn binomial(x: i64, m: usize, row: &mut [i128]) -> Result<i128, Past>
-    requires most { m ≤ exponent_limit }
-    requires row { length row.old ≡ exponent_limit + 1 }
-    ensures { Unless (RowOverflows x (m + 1)) (choose x m) result }
-{
-    match binomial_row(x as i128, &mut row[..m + 1]) {
-        Ok(()) => Ok(row[m]),
-        Err(_) => Err(Past),
-    }
-}
-
 /// The factor of the group of a member.
-fn factor(letters: &Letters, tree: Tree, member: Tree, row: &mut [i128]) -> Result<i128, Past>
+fn factor(letters: &Letters, tree: Tree, member: Tree) -> Result<i128, Past>
     requires tree { IsTreeOf letters.now tree }
     requires member { IsTreeOf letters.now member }
-    requires row { length row.old ≡ exponent_limit + 1 }
     ensures { let e = exponents_of letters.now.pres in let t = letter_in letters.now tree in
         let g = group_of (letter_in letters.now member) in
         Unless (FactorOverflows e t g) (factor e t g) result }
@@ -67,14 +49,13 @@ fn factor(letters: &Letters, tree: Tree, member: Tree, row: &mut [i128]) -> Resu
         return Err(Past);
     }
     let exponent = letters.exponent(letters.kind(right), letters.kind(left), kind);
-    binomial(exponent, most as usize, row)
+    binomial(i128::from(exponent), most as u32)
 }
 
 /// The product of the factors of the groups of members.
-fn product(letters: &Letters, tree: Tree, members: &[Tree], row: &mut [i128]) -> Result<i128, Past>
+fn product(letters: &Letters, tree: Tree, members: &[Tree]) -> Result<i128, Past>
     requires tree { IsTreeOf letters.now tree }
     requires members { All (IsTreeOf letters.now) members.now }
-    requires row { length row.old ≡ exponent_limit + 1 }
     requires nonzero { All (λ g. factor (exponents_of letters.now.pres)
         (letter_in letters.now tree) g ≢ pos 0) (groups_over letters.now members.now) }
     ensures { let e = exponents_of letters.now.pres in let t = letter_in letters.now tree in
@@ -84,26 +65,20 @@ fn product(letters: &Letters, tree: Tree, members: &[Tree], row: &mut [i128]) ->
 {
     let mut product = 1;
     for member in members {
-        product = times(factor(letters, tree, *member, row)?, product)?;
+        product = times(factor(letters, tree, *member)?, product)?;
     }
     Ok(product)
 }
 
 /// The constant of a tree.
-pub(crate) fn constant(
-    alloc: Global,
-    letters: &Letters,
-    tree: Tree,
-    row: &mut [i128],
-) -> Result<i128, PolyFault>
+pub(crate) fn constant(alloc: Global, letters: &Letters, tree: Tree) -> Result<i128, PolyFault>
     requires tree { IsTreeOf letters.now tree }
     requires letter { IsLetter (exponents_of letters.now.pres) (letter_in letters.now tree) }
-    requires row { length row.old ≡ exponent_limit + 1 }
     ensures { let e = exponents_of letters.now.pres in let t = letter_in letters.now tree in
         Gives wide_of result (Unless
         (ConstantOverflows e t ⊎ Overflows (unsigned_abs (constant e t))) (constant e t)) }
 {
     let mut members = Vec::new(alloc);
     put_groups(letters, tree, &mut members)?;
-    Ok(product(letters, tree, &members, row)?)
+    Ok(product(letters, tree, &members)?)
 }

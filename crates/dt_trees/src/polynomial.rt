@@ -13,7 +13,7 @@ ghost use Rattle.dt_letters.specs.Allowed.{exponents_of};
 ghost use Rattle.dt_letters.specs.Arena.{IsTreeOf, letter_in};
 ghost use Rattle.dt_trees.specs.Polynomials.{IsOver, term_of, terms_of, ConstantOverflows, TreesOverflow};
 
-use crate::constants::{PLACES, constant};
+use crate::constants::constant;
 use crate::monomials::monomial;
 use binom_poly::{Accumulator, Poly, PolyFault};
 use dt_letters::{Letters, Tree};
@@ -24,13 +24,11 @@ fn add_term(
     alloc: Global,
     letters: &Letters,
     tree: Tree,
-    row: &mut [i128],
     sums: Accumulator,
 ) -> Result<Accumulator, PolyFault>
     requires tree { IsTreeOf letters.now tree }
     requires over { IsOver (exponents_of letters.now.pres) (length letters.now.pres.names)
         (letter_in letters.now tree) }
-    requires row { length row.old ≡ exponent_limit + 1 }
     ensures holds { IfOk result (λ more. (cs : List Term) → Holds sums cs → Holds more
         (cs ++ term_of (exponents_of letters.now.pres) (letter_in letters.now tree) ∷ [])) }
     ensures fits { IfOk result (λ _. ¬ ConstantOverflows (exponents_of letters.now.pres)
@@ -42,7 +40,7 @@ fn add_term(
         (cs ++ term_of (exponents_of letters.now.pres) (letter_in letters.now tree) ∷ [])) }
 {
     let _generators = letters.pres().count();
-    let coefficient = constant(alloc, letters, tree, row)?;
+    let coefficient = constant(alloc, letters, tree)?;
     let monomial = monomial(alloc, letters, tree)?;
     sums.add(alloc, &monomial, coefficient)
 }
@@ -59,10 +57,9 @@ pub fn tree_poly(alloc: Global, letters: &Letters, trees: &[Tree]) -> Result<Pol
         ≡ value_of a (terms_of (exponents_of letters.now.pres)
         (map (letter_in letters.now) trees.now))) }
 {
-    let mut row = vec![in alloc; 0; PLACES]?;
     let mut sums = Accumulator::new(alloc);
     for tree in trees {
-        sums = add_term(alloc, letters, *tree, &mut row, sums)?;
+        sums = add_term(alloc, letters, *tree, sums)?;
     }
     Ok(sums.into_poly(alloc)?)
 }

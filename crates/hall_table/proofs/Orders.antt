@@ -5,8 +5,7 @@ use Rattle.std.specs.Prelude.{unsigned_abs, Some, None, ◌||◌}
 use Rattle.std.proofs.lemmas.Bool.{cases_Bool, false≢true, le-leb, leb-true}
 use Rattle.std.proofs.lemmas.Bool.Decides.{nat_tests}
 use lib.IntN.{ℤ}
-use Rattle.nil_num.specs.Row.{written_product}
-use Rattle.binom_poly.specs.Readings.{RowOverflows}
+use Rattle.nil_num.specs.Row.{written_product, RowOverflows}
 use Rattle.nil_num.specs.Bound.{Overflows, overflows}
 use Rattle.nil_num.specs.First.{first_from}
 use Rattle.hall_table.specs.Order.{overflows_below, row_overflows}

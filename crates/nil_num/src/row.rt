@@ -15,7 +15,7 @@ pub struct PastAt {
 }
 
 /// `x` over `k + 1`, from `x` over `k`. The product of that and `x - k` is a multiple of `k + 1`.
-fn next_binomial(x: i128, entry: i128, k: u32) -> Option<i128>
+pub(super) fn next_binomial(x: i128, entry: i128, k: u32) -> Option<i128>
     requires entry { entry ≡ choose x k }
     requires small { k < 1000 }
     ensures { MatchOption result

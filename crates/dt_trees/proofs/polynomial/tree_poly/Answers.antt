@@ -25,8 +25,8 @@ pub returns-in_err-sums-clause-poly : goal.returns-in_err-sums-clause-poly
 returns-in_err-sums-clause-poly c =
     let a = c.args.letters.now in
     let e = exponents_of a.pres in
-    gives_refused c.from_residual-in_err-sums.result (collected (terms_of e (map (letter_in a) c.args.trees.now)))
-    c.from_residual-in_err-sums.ensures.1
+    gives_refused c.from_residual.result (collected (terms_of e (map (letter_in a) c.args.trees.now)))
+    c.from_residual.ensures.1
     (λ w. overflows-next e a c.args.trees.now c.loop-tree.tree-index (record { place = 0 }) (omega arith)
     (c.in_err-sums.ensures.wide w
     (terms_of e (map (letter_in a) (take c.loop-tree.tree-index c.args.trees.now)))
