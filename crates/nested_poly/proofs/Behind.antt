@@ -11,16 +11,15 @@ use Rattle.binom_poly.specs.declared.part.Part.{Part}
 use Rattle.binom_poly.specs.Monomial.{IsMonomial, IsMonomialAbove, degree, monomial_cmp}
 use Rattle.binom_poly.proofs.Unique.{before_irrefl, before_lower}
 use Rattle.binom_poly.specs.Polynomial.{monomial_value, value_of, IsPolynomial, IsPolynomialFrom}
-use Rattle.binom_poly.specs.Reading.{Reading}
-use Rattle.binom_poly.specs.Readings.{width_at, magnitude_of, IsCovered}
+use Rattle.binom_poly.specs.Readings.{magnitude_of}
 use Rattle.nested_poly.specs.declared.node.Node.{Node}
 use Rattle.nested_poly.specs.declared.split.Split.{Split}
 use Rattle.nested_poly.specs.declared.tail.Tail.{Tail}
 use Rattle.nested_poly.specs.declared.weighed.Weighed.{Weighed}
 use Rattle.nested_poly.specs.Nodes.{constant_term, IsWeighed, under, own_term, branch_terms, terms_of, terms_within, IsForest, IsForestWithin, IsNestOf}
 use Rattle.nested_poly.specs.Tails.{tail_terms, HasPart, HaveParts, Nests}
-use Rattle.nested_poly.specs.Splits.{split_terms, terms_by, IsSplitOf}
-use Rattle.nested_poly.proofs.Branching.{mul-one, sum_swap, value_branch, magnitude_branch, magnitude-append, covered-append, covered_left, covered_right, covered-under, covered_below, covered_first, terms_first, forest_of_front, Front}
+use Rattle.nested_poly.specs.Splits.{split_terms, IsSplitOf}
+use Rattle.nested_poly.proofs.Branching.{mul-one, sum_swap, value_branch, magnitude_branch, magnitude-append, covered-append, covered_left, covered_right, covered-under, covered_below, covered_first, terms_first, forest_of_front}
 use Rattle.nested_poly.proofs.Splitting.{zero_more, tail_terms-append, All_more}
 
 -- ---- lists

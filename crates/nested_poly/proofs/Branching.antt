@@ -1,5 +1,5 @@
 -- Values, magnitudes and rows of the terms of a branch, and of nodes from their front
-use Rattle.std.proofs.Common.{◌≡◌, ◌≢◌, ℕ, zero, suc, ◌+◌, ◌*◌, ◌^◌, ◌<◌, ◌≤◌, List, [], ◌∷◌, ◌++◌, length, take, drop, refl, sym, ap, ◌∙◌, subst, arith, length-append}
+use Rattle.std.proofs.Common.{◌≡◌, ◌≢◌, ℕ, zero, suc, ◌+◌, ◌*◌, ◌^◌, ◌<◌, ◌≤◌, List, [], ◌∷◌, ◌++◌, length, take, drop, refl, sym, ap, ◌∙◌, subst, arith}
 use Rattle.std.proofs.Math.Nat.{mul-le-mul_left}
 use Rattle.std.specs.Prelude.{unsigned_abs, Result, MatchResult}
 use Rattle.std.proofs.lemmas.Result.{MatchResult-weaker}
@@ -7,13 +7,13 @@ use Rattle.std.proofs.lemmas.Int.{unsigned_abs-mul}
 use Rattle.std.proofs.lemmas.Grind.{common_steps}
 use lib.IntN.{ℤ, pos, negsuc, ◌+ℤ◌, ◌*ℤ◌, zero-*ℤ, *ℤ-zero, *ℤ_comm, +ℤ_idr, +ℤ_comm, +ℤ_assoc, +ℤ_idl}
 use Rattle.integer.specs.Binomial.{choose}
-use Rattle.integer.proofs.Laws.{one-mul_ℤ, mul_assoc_ℤ, mul-add}
+use Rattle.integer.proofs.Laws.{one-mul_ℤ, mul-add}
 use Rattle.integer.proofs.Ring.{mul_swap_ℤ}
 use Rattle.binom_poly.specs.declared.part.Part.{Part}
 use Rattle.binom_poly.specs.declared.term.Term.{Term}
 use Rattle.binom_poly.specs.Polynomial.{monomial_value, value_of}
 use Rattle.binom_poly.specs.Reading.{Reading}
-use Rattle.binom_poly.specs.Readings.{value_at, width_at, magnitude_of, IsCoveredMonomial, IsCovered}
+use Rattle.binom_poly.specs.Readings.{value_at, width_at, magnitude_of, IsCovered}
 use Rattle.binom_poly.proofs.Times.{value-append}
 use Rattle.binom_poly.specs.declared.fault.Wide.{Wide}
 use Rattle.nested_poly.specs.declared.node.Node.{Node}
@@ -281,6 +281,14 @@ sum_more rows ns rest after below next n w more sum e f g h b s =
       shorter = omega arith;
       weighed = s.2;
     }
+
+-- a factor that is 0 leaves the sum
+pub sum_stays : (rows : List Reading) (ns rest after below next : List Node) (n : Node) (w : Weighed) (x : ℤ) → rest ≡ n ∷ after → below ≡ take n.below after → next ≡ drop n.below after → SumSoFar rows ns rest w.value w.magnitude
+    → x ≡ choose (value_at rows n.part.var) n.part.exp → x ≡ pos 0 → SumSoFar rows ns next w.value w.magnitude
+sum_stays rows ns rest after below next n w x e f g h d z =
+    sum_more rows ns rest after below next n w (record { value = pos 0; magnitude = 0 }) w e f g h
+    (zero_branch (value_at rows) n (terms_of below) x d z)
+    (sym (+ℤ_idr w.value), omega arith, h.weighed)
 
 pub sum_overflows : (rows : List Reading) (ns rest after below next : List Node) (n : Node) (w : Weighed) → rest ≡ n ∷ after → below ≡ take n.below after → next ≡ drop n.below after → SumSoFar rows ns rest w.value w.magnitude
     → 2 ^ 127 ≤ w.magnitude + magnitude_of (value_at rows) (branch_terms n (terms_of below)) → 2 ^ 127 ≤ magnitude_of (value_at rows) (terms_of ns)

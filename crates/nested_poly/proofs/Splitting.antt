@@ -1,5 +1,5 @@
 -- What a tail adds to a split
-use Rattle.std.proofs.Common.{◌≡◌, ◌≢◌, ℕ, zero, suc, ◌+◌, ◌*◌, ◌<◌, ◌≤◌, List, [], ◌∷◌, ◌++◌, length, get_or, take, drop, Bool, true, false, not, ◌&&◌, eqb, refl, sym, ap, ◌∙◌, subst, arith, rules}
+use Rattle.std.proofs.Common.{◌≡◌, ℕ, ◌+◌, ◌*◌, ◌<◌, ◌≤◌, List, [], ◌∷◌, ◌++◌, length, get_or, take, drop, Bool, true, false, not, ◌&&◌, eqb, refl, sym, ap, ◌∙◌, subst, arith}
 use Rattle.std.specs.Prelude.{unsigned_abs, All}
 use Rattle.std.proofs.lemmas.Int.{unsigned_abs-mul}
 use Rattle.std.proofs.lemmas.Bool.{false≢true, eq-eqb, eqb-true}
@@ -9,16 +9,15 @@ use lib.IntN.{ℤ, pos, ◌+ℤ◌, ◌*ℤ◌, *ℤ_comm, +ℤ_idr, +ℤ_idl, +
 use Rattle.integer.specs.Binomial.{choose}
 use Rattle.integer.proofs.Ring.{reads, ring_by, mul_swap_ℤ}
 use Rattle.binom_poly.specs.declared.part.Part.{Part}
-use Rattle.binom_poly.specs.declared.term.Term.{Term}
 use Rattle.binom_poly.specs.Polynomial.{monomial_value, value_of}
 use Rattle.binom_poly.specs.Reading.{Reading}
 use Rattle.binom_poly.specs.Readings.{width_at, magnitude_of, IsCoveredMonomial, IsCovered}
 use Rattle.binom_poly.proofs.Times.{value-append}
 use Rattle.nested_poly.specs.declared.split.Split.{Split}
 use Rattle.nested_poly.specs.declared.tail.Tail.{Tail}
-use Rattle.nested_poly.specs.Nodes.{under, branch_terms, IsNestOf}
+use Rattle.nested_poly.specs.Nodes.{branch_terms}
 use Rattle.nested_poly.specs.Tails.{tail_terms, parts_in, HasPart}
-use Rattle.nested_poly.specs.Splits.{terms_by, split_terms, parts_left, HavePartsLeft, Adds, IsSplitOf}
+use Rattle.nested_poly.specs.Splits.{terms_by, split_terms, parts_left, Adds, IsSplitOf}
 use Rattle.nested_poly.proofs.Branching.{value_branch, magnitude_branch, magnitude-append, covered-append, covered_left, covered_right, covered-under, covered_below, mul-one}
 
 -- ---- tails one after another

@@ -1,7 +1,6 @@
-use Rattle.std.proofs.Common.{◌≡◌, ◌∙◌, refl, sym, ap, subst, arith, rules, FitsSigned}
+use Rattle.std.proofs.Common.{refl, sym, subst, arith, rules, FitsSigned}
 use Rattle.std.specs.Int.{w128}
 use Rattle.std.proofs.lemmas.Int.{to_z-of_z}
-use Rattle.nested_poly.specs.Tails.{parts_in}
 use Rattle.nested_poly.specs.Splits.{IsSplitOf}
 use Rattle.nested_poly.proofs.Behind.{nests_none, nests_whole, on_ok, tails_behind}
 use Rattle.nested_poly.proofs.building.+nest.Goals as goal

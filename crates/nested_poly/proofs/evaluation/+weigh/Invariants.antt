@@ -1,5 +1,4 @@
 use Rattle.std.proofs.Common.{◌+◌, ◌*◌, length}
-use Rattle.binom_poly.specs.Readings.{value_at}
 use Rattle.nested_poly.proofs.Branching.{SumSoFar}
 use Rattle.nested_poly.proofs.evaluation.+weigh.Given as goal
 

@@ -1,4 +1,4 @@
-use Rattle.std.proofs.Common.{◌≡◌, ◌∙◌, refl, arith, rules, length, ap, ◌≢◌, eqb, true, false}
+use Rattle.std.proofs.Common.{◌∙◌, length, ap}
 use Rattle.binom_poly.proofs.Spreading.{some_here}
 use Rattle.nested_poly.proofs.Behind.{no_constant_first, rest_parts, first_parts, no_parts_asked}
 use Rattle.nested_poly.proofs.tails.split_constant.Goals as goal

@@ -1,4 +1,4 @@
-use Rattle.std.proofs.Common.{◌≡◌, refl, sym, arith, rules, FitsSigned}
+use Rattle.std.proofs.Common.{arith, rules, FitsSigned}
 use Rattle.std.specs.Int.{w128}
 use Rattle.std.proofs.lemmas.Int.{to_z-of_z}
 use Rattle.nested_poly.proofs.Behind.{no_tails, tails_more}

@@ -1,7 +1,6 @@
-use Rattle.std.proofs.Common.{◌≡◌, sym, refl, arith, rules, FitsSigned, of_z, ap}
+use Rattle.std.proofs.Common.{sym, refl, rules, FitsSigned, of_z, ap}
 use Rattle.std.specs.Int.{w128}
 use Rattle.std.proofs.lemmas.Int.{to_z-of_z}
-use Rattle.binom_poly.specs.declared.part.Part.{Part}
 use Rattle.binom_poly.proofs.Sorting.{zero_of_bits}
 use Rattle.nested_poly.proofs.Splitting.{adds_other, adds_below, adds_own, begins_other, begins_with, begins_alone}
 use Rattle.nested_poly.proofs.split.Split.add.Goals as goal

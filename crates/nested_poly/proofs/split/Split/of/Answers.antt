@@ -1,4 +1,4 @@
-use Rattle.std.proofs.Common.{refl, arith}
+use Rattle.std.proofs.Common.{refl}
 use Rattle.nested_poly.proofs.Splitting.{first_added, next_added, so_far_ends, own_first, tail_at}
 use Rattle.nested_poly.proofs.split.Split.of.Goals as goal
 
