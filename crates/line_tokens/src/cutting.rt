@@ -72,7 +72,8 @@ pub fn cut<V: Vocabulary>(
 ) -> Result<Vec<Token>, AllocError>
     ensures { IfOk result (λ found. found.items ≡ tokens (V.word vocabulary.now) line.now) }
 {
-    let mut found = Vec::new(alloc);
+    // A token has at least one byte.
+    let mut found = Vec::with_capacity(alloc, line.len())?;
     let mut at = 0;
     'cutting: while at < line.len() {
         if blank(line[at]) {

@@ -60,10 +60,9 @@ fn judge(alloc: Global, tokens: &[Token], bytes: usize) -> Result<Query, QueryFa
     let mut opened = 0;
     let mut raised = false;
     for token in tokens {
-        let Some(next) = reader.step(alloc, token.kind)? else {
+        if !reader.step(alloc, token.kind)? {
             return Err(QueryFault::Syntax(token.place));
-        };
-        reader = next;
+        }
         if let Some(fault) = trouble_at(opened, raised, token) {
             return Err(fault);
         }

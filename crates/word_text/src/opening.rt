@@ -1,19 +1,18 @@
 //! A token where an atom may stand.
 
-ghost use Rattle.std.specs.Prelude.{◌≡◌, [], ◌∷◌, reverse, option_map, Some, IfOk, OnOk};
+ghost use Rattle.std.specs.Prelude.{◌≡◌, [], ◌∷◌, reverse, Some, IfOk, OnOk};
 ghost use Rattle.word_text.specs.declared.head.Head.{Head};
+ghost use Rattle.word_text.specs.declared.head.Head.TheVariants.{Value};
 ghost use Rattle.word_text.specs.declared.now.Now.TheVariants.{Atom};
 ghost use Rattle.word_text.specs.State.{at, empty, moved};
 ghost use Rattle.word_text.specs.Machine.{next_atom, next_start};
-ghost use Rattle.word_text.specs.Seen.{seen};
 
 use super::bracket::Bracket;
 use super::frame::Frame;
 use super::head::Head;
 use super::level::Level;
 use super::now::Now;
-use super::phrases::{behind_atom, behind_number, empty_level, moved};
-use super::reader::Reader;
+use super::phrases::{behind_atom, behind_number, empty_level};
 use line_tokens::Kind;
 use nil_word::{Expr, Memory};
 use sqlite_items::Items;
@@ -41,7 +40,7 @@ fn behind_opening(
 }
 
 /// Where the reader stands behind one token, where an atom may stand.
-fn behind_first(
+pub(super) fn behind_first(
     alloc: Global,
     frames: &mut Items<Frame>,
     level: Level,
@@ -62,45 +61,42 @@ fn behind_first(
     }
 }
 
-/// One token where an atom may stand.
-pub(super) fn step_atom(
+/// Where the reader stands behind a first token that is no keyword.
+fn behind_first_atom(
     alloc: Global,
-    head: Head,
-    frames: Items<Frame>,
-    level: Level,
+    frames: &mut Items<Frame>,
     kind: Kind,
-) -> Result<Option<Reader>, Memory>
-    ensures { IfOk result (λ r. option_map seen r ≡ next_atom head (reverse frames) level kind) }
+) -> Result<Option<Now>, Memory>
+    ensures { IfOk result (λ now. moved Value (reverse frames.new) now
+        ≡ next_atom Value [] empty kind) }
 {
-    let mut frames = frames;
-    let now = behind_first(alloc, &mut frames, level, kind)?;
-    Ok(moved(head, frames, now))
+    *frames = Items::new(alloc);
+    behind_first(alloc, frames, empty_level(alloc), kind)
 }
 
-/// The reader before the first atom of a line with a keyword.
-fn behind_keyword(alloc: Global, head: Head) -> Reader
-    ensures { seen result ≡ at head [] (Atom empty) }
-{
-    Reader {
-        head,
-        frames: Items::new(alloc),
-        now: Now::Atom(empty_level(alloc)),
-    }
-}
-
-/// The first token.
-pub(super) fn step_start(alloc: Global, kind: Kind) -> Result<Option<Reader>, Memory>
-    ensures { IfOk result (λ r. option_map seen r ≡ next_start kind) }
+/// Where the reader stands behind the first token, which also tells what the line is.
+pub(super) fn behind_start(
+    alloc: Global,
+    head: &mut Head,
+    frames: &mut Items<Frame>,
+    kind: Kind,
+) -> Result<Option<Now>, Memory>
+    ensures { IfOk result (λ now. moved head.new (reverse frames.new) now ≡ next_start kind) }
 {
     match kind {
-        Kind::Solve => Ok(Some(behind_keyword(alloc, Head::Solve))),
-        Kind::Quotient => Ok(Some(behind_keyword(alloc, Head::Quotient))),
-        _ => step_atom(
-            alloc,
-            Head::Value,
-            Items::new(alloc),
-            empty_level(alloc),
-            kind,
-        ),
+        Kind::Solve => {
+            *head = Head::Solve;
+            *frames = Items::new(alloc);
+            Ok(Some(Now::Atom(empty_level(alloc))))
+        }
+        Kind::Quotient => {
+            *head = Head::Quotient;
+            *frames = Items::new(alloc);
+            Ok(Some(Now::Atom(empty_level(alloc))))
+        }
+        _ => {
+            *head = Head::Value;
+            behind_first_atom(alloc, frames, kind)
+        }
     }
 }

@@ -1,29 +1,15 @@
 //! What a phrase makes of its parts.
 
-ghost use Rattle.std.specs.Prelude.{◌≡◌, reverse, option_map, IfOk};
+ghost use Rattle.std.specs.Prelude.{◌≡◌, IfOk};
 ghost use Rattle.word_text.specs.Products.{product_of};
 ghost use Rattle.word_text.specs.Machine.{behind, behind_integer};
-ghost use Rattle.word_text.specs.State.{empty, moved};
-ghost use Rattle.word_text.specs.Seen.{seen};
+ghost use Rattle.word_text.specs.State.{empty};
 
-use super::frame::Frame;
-use super::head::Head;
 use super::level::Level;
 use super::now::Now;
-use super::reader::Reader;
 use nil_word::{Expr, Memory};
 use sqlite_items::{Boxed, Items};
 use std::alloc::Global;
-
-/// The reader where it stands, if the line goes on.
-pub(super) fn moved(head: Head, frames: Items<Frame>, now: Option<Now>) -> Option<Reader>
-    ensures { option_map seen result ≡ moved head (reverse frames) now }
-{
-    match now {
-        Some(now) => Some(Reader { head, frames, now }),
-        None => None,
-    }
-}
 
 /// The expression of a list of factors.
 pub(super) fn whole(items: Items<Expr>) -> Expr
