@@ -9,6 +9,9 @@ use super::kind::Kind;
 /// The greatest magnitude, 2^127 - 1.
 const MAX: u128 = 0x7fff_ffff_ffff_ffff_ffff_ffff_ffff_ffff;
 
+/// Ten times a number below it and one more digit fit: for those no quotient is needed.
+const SMALL: u128 = 1 << 120;
+
 /// The number of digits, where it is at most 2^127 - 1.
 fn magnitude(digits: &[u8]) -> Option<u128>
     ensures { result ≡ (if overflows (number_from 0 digits.now) then None
@@ -17,7 +20,7 @@ fn magnitude(digits: &[u8]) -> Option<u128>
     let mut n = 0u128;
     for byte in digits {
         let digit = byte.saturating_sub(b'0') as u128;
-        if n > (MAX - digit) / 10 {
+        if n >= SMALL && n > (MAX - digit) / 10 {
             return None;
         }
         n = n * 10 + digit;
