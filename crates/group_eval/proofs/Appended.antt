@@ -2,7 +2,7 @@
 -- the rows of the left vector, the row of the exponent, and the sum at the generator.
 --   t table · g k generators · e exponent · x vector · n places of a row · at place
 use Rattle.std.proofs.Common.{◌≡◌, ◌≢◌, ℕ, zero, suc, ◌+◌, ◌-◌, ◌^◌, ◌<◌, ◌≤◌, Bool, true, false, List, length, length-drop, get_or, set, take, drop, leb, refl, sym, ap, ◌∙◌, subst, arith, inl, inr}
-use Rattle.std.specs.Prelude.{All, Option, Some, None, Result, Ok, Err, option_map, ◌||◌, unsigned_abs}
+use Rattle.std.specs.Prelude.{All, Option, Some, None, Ok, Err, option_map, ◌||◌, unsigned_abs}
 use Rattle.std.proofs.lemmas.Bool.{lt-leb, le-leb, cases_lt}
 use Rattle.std.proofs.lemmas.Bool.Decides.{eqb_tells, leb_tells}
 use Rattle.std.proofs.lemmas.List.{get_or_past, get_or-drop, take_all}
@@ -20,8 +20,8 @@ use Rattle.binom_poly.specs.Variable.{y_of}
 use Rattle.hall_table.specs.declared.wide_at.WideAt.{WideAt}
 use Rattle.hall_table.specs.declared.wide_at.WideAt.TheVariants.{RowX, RowY, Sum}
 use Rattle.hall_table.specs.Multiplies.{Paired, IsChecked}
-use Rattle.hall_table.specs.Tabled.{Tabled, IsTabled, last_of, poly_at}
-use Rattle.hall_table.specs.Values.{point_of, values}
+use Rattle.hall_table.specs.Tabled.{Tabled, IsTabled, last_of}
+use Rattle.hall_table.specs.Values.{values}
 use Rattle.hall_table.specs.Width.{width_for}
 use Rattle.hall_table.specs.Order.{overflows_below, row_overflows, generators, named, x_overflows, y_overflows, sum_at_overflows, multiplied}
 use Rattle.hall_table.proofs.Orders.{first_found, first_none}
@@ -51,7 +51,7 @@ row_overflows-zero (suc n) = overflows_below-zero n
 
 no_leb : (a b : ℕ) → (a ≤ b → ⊥) → leb a b ≡ false
 no_leb a b h =
-    elim (leb_tells a b) [ | inl less ↦ absurd (h less.1) | inr more ↦ more.0 ]
+    elim (leb_tells a b) [ inl less ↦ absurd (h less.1) | inr more ↦ more.0 ]
 
 -- ---- what is asked of the syllable
 pub record Appends (t : Tabled) (g : ℕ) (e : ℤ) (x : List ℤ) : Type 0 where

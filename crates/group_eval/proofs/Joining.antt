@@ -1,6 +1,6 @@
 -- What is multiplied on stays among the vectors of the level.
 --   c presentation with its table · e expression · a b v vectors
-use Rattle.std.proofs.Common.{◌≡◌, ℤ, List, Ok, ap, subst}
+use Rattle.std.proofs.Common.{◌≡◌, ℤ, List, Ok, subst}
 use Rattle.hall_table.specs.Multiplies.{Paired, IsChecked}
 use Rattle.hall_table.specs.Order.{multiplied}
 use Rattle.nil_word.specs.declared.expr.Expr.{Expr}

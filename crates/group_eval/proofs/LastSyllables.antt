@@ -2,8 +2,8 @@
 -- |e| make the sum at the generator, and |x_k| alone that at each other.
 --   level level · n last generator · g k m generators · e exponent · v variable · a b points
 --   x vector · t table
-use Rattle.std.proofs.Common.{◌≡◌, ◌≢◌, ℕ, ◌+◌, ◌-◌, ◌<◌, ◌≤◌, Bool, true, false, List, [], ◌∷◌, length, refl, sym, ap, ◌∙◌, subst, arith, ◌⊎◌, inl, inr}
-use Rattle.std.specs.Prelude.{nat_le, ◌==◌, ◌&&◌, ◌||◌, All, IsTrue, unsigned_abs}
+use Rattle.std.proofs.Common.{◌≡◌, ◌≢◌, ℕ, ◌+◌, ◌-◌, ◌<◌, ◌≤◌, Bool, true, false, List, [], ◌∷◌, length, refl, sym, ap, ◌∙◌, subst, arith, inl, inr}
+use Rattle.std.specs.Prelude.{nat_le, ◌==◌, ◌&&◌, ◌||◌, IsTrue, unsigned_abs}
 use Rattle.std.specs.Ordering.{nat_cmp, ordering_then}
 use Rattle.std.specs.declared.cmp.Ordering.{Ordering}
 use Rattle.std.specs.declared.cmp.Ordering.TheVariants.{Less, Equal}
@@ -17,7 +17,7 @@ use Rattle.nil_word.specs.Words.{IsVector}
 use Rattle.nil_word.specs.Exponents.{entry}
 use Rattle.hall_law.specs.Table.{added, single, IsZeroAbove}
 use Rattle.hall_law.proofs.Entries.{same_entries}
-use Rattle.hall_law.proofs.Vectors.{IsAt, at_of, added_writes, part, part_same, part_other, IsAt-single}
+use Rattle.hall_law.proofs.Vectors.{at_of, added_writes, part, part_same, part_other, IsAt-single}
 use Rattle.binom_poly.specs.declared.part.Part.{Part}
 use Rattle.binom_poly.specs.declared.term.Term.{Term}
 use Rattle.binom_poly.specs.Collected.{var_terms}

@@ -1,5 +1,5 @@
 -- The outcome is that of the lemmas, at the table and the numbers as the code has them.
-use Rattle.std.proofs.Common.{◌≡◌, ◌∙◌, ap, subst, rules, FitsSigned}
+use Rattle.std.proofs.Common.{◌∙◌, ap, subst, rules, FitsSigned}
 use Rattle.std.specs.Int.{w128}
 use Rattle.std.proofs.lemmas.Int.{to_z-of_z}
 use Rattle.std.proofs.lemmas.Result.{err_from_is_err_and}
