@@ -1,15 +1,15 @@
 -- The product with a power of a generator by the written order, where the left vector is 0 above it:
 -- the rows of the left vector, the row of the exponent, and the sum at the generator.
---   t table · g k generators · e exponent · x vector · n places of a row · at place
-use Rattle.std.proofs.Common.{◌≡◌, ◌≢◌, ℕ, zero, suc, ◌+◌, ◌-◌, ◌^◌, ◌<◌, ◌≤◌, Bool, true, false, List, length, length-drop, get_or, set, take, drop, leb, refl, sym, ap, ◌∙◌, subst, arith, inl, inr}
-use Rattle.std.specs.Prelude.{All, Option, Some, None, Ok, Err, option_map, ◌||◌, unsigned_abs}
-use Rattle.std.proofs.lemmas.Bool.{lt-leb, le-leb, cases_lt}
-use Rattle.std.proofs.lemmas.Bool.Decides.{eqb_tells, leb_tells}
-use Rattle.std.proofs.lemmas.List.{get_or_past, get_or-drop, take_all}
-use lib.IntN.{ℤ, pos, ◌+ℤ◌, ◌-ℤ◌, ◌*ℤ◌, zero-*ℤ, *ℤ-zero}
+--   c presentation with its table · t table · g k generators · e exponent · x vector
+--   n places of a row · p test of numbers · r what follows
+use Rattle.std.proofs.Common.{◌≡◌, ◌≢◌, ℕ, zero, suc, ◌+◌, ◌-◌, ◌^◌, ◌<◌, ◌≤◌, Bool, true, false, cond, List, length, refl, sym, ap, ◌∙◌, subst, arith, inl, inr}
+use Rattle.std.specs.Prelude.{Option, Some, None, Ok, ◌||◌, unsigned_abs}
+use Rattle.std.proofs.lemmas.Bool.{cases_Bool, lt-leb}
+use Rattle.std.proofs.lemmas.Bool.Decides.{eqb_tells}
+use lib.IntN.{ℤ, pos, ◌-ℤ◌, ◌*ℤ◌, zero-*ℤ, *ℤ-zero}
 use Rattle.integer.specs.Binomial.{choose}
 use Rattle.integer.proofs.Binomial.{choose_past}
-use Rattle.nil_num.specs.Bound.{overflows, Overflows, IsNumber}
+use Rattle.nil_num.specs.Bound.{overflows, IsNumber}
 use Rattle.nil_num.specs.First.{first_from}
 use Rattle.nil_num.specs.Row.{written_product}
 use Rattle.nil_word.specs.Words.{IsVector}
@@ -25,10 +25,9 @@ use Rattle.hall_table.specs.Values.{values}
 use Rattle.hall_table.specs.Width.{width_for}
 use Rattle.hall_table.specs.Order.{overflows_below, row_overflows, generators, named, x_overflows, y_overflows, sum_at_overflows, multiplied}
 use Rattle.hall_table.proofs.Orders.{first_found, first_none}
-use Rattle.group_eval.specs.ByValues.{IsIn}
 use Rattle.group_eval.specs.Right.{AreSmall}
-use Rattle.group_eval.specs.Order.{Outcome}
-use Rattle.group_eval.specs.Syllables.{IsSyllableOf}
+use Rattle.group_eval.specs.Order.{Outcome, unless}
+use Rattle.group_eval.specs.Syllables.{appended, AppendedIs}
 use Rattle.group_eval.proofs.Appending.{product-single}
 use Rattle.group_eval.proofs.LastSyllables.{AddsAt, entry-other, entry-own, magnitude-own, magnitude-other}
 
@@ -49,12 +48,34 @@ row_overflows-zero : (n : ℕ) → row_overflows (pos 0) n ≡ false
 row_overflows-zero zero = refl
 row_overflows-zero (suc n) = overflows_below-zero n
 
-no_leb : (a b : ℕ) → (a ≤ b → ⊥) → leb a b ≡ false
-no_leb a b h =
-    elim (leb_tells a b) [ inl less ↦ absurd (h less.1) | inr more ↦ more.0 ]
+-- ---- one number alone that may have the property
+only : ℕ → Bool → Option ℕ
+only g b = cond b (Some g) None
+
+first_from-only : (p : ℕ → Bool) (low d g : ℕ) → low ≤ g → g < low + d
+    → ((k : ℕ) → low ≤ k → k < low + d → k ≢ g → p k ≡ false) → first_from low d p ≡ only g (p g)
+unfolding only
+first_from-only p low d g from to others =
+    elim (cases_Bool (p g)) [
+      | inl holds ↦
+          first_found p low d g from to (λ k a b. others k a (omega arith) (λ f. omega arith)) holds
+          ∙ sym (ap (only g) holds)
+      | inr fails ↦
+          first_none p low d (λ k a b. elim (eqb_tells k g) [
+            | inl same ↦ ap p same.1 ∙ fails
+            | inr other ↦ others k a b other.1
+          ])
+          ∙ sym (ap (only g) fails)
+    ]
+
+named-only : (place : ℕ → WideAt) (g : ℕ) (b : Bool) (r : Outcome)
+    → named place (only g b) r ≡ unless b (place g) r
+unfolding only
+named-only place g true r = refl
+named-only place g false r = refl
 
 -- ---- what is asked of the syllable
-pub record Appends (t : Tabled) (g : ℕ) (e : ℤ) (x : List ℤ) : Type 0 where
+pub record Appends (t : Tabled) (g : ℕ) (x : List ℤ) : Type 0 where
   pub tabled : IsTabled t
   pub low : t.level ≤ g
   pub high : g ≤ last_of t
@@ -63,12 +84,9 @@ pub record Appends (t : Tabled) (g : ℕ) (e : ℤ) (x : List ℤ) : Type 0 wher
   pub small : AreSmall x
   pub above : IsZeroAbove g x
 
-module _ (t : Tabled) (g : ℕ) (e : ℤ) (x : List ℤ) (s : Appends t g e x) where
+module _ (t : Tabled) (g : ℕ) (e : ℤ) (x : List ℤ) (s : Appends t g x) where
   abbrev y : List ℤ
   y = single (last_of t) g e
-
-  abbrev FitX : Type 0
-  FitX = first_from t.level (generators t) (x_overflows t x) ≡ None
 
   top : g < t.level + generators t
   top = let some : 0 < length t.polys = s.tabled.nonempty in omega (arith, s.high)
@@ -86,20 +104,12 @@ module _ (t : Tabled) (g : ℕ) (e : ℤ) (x : List ℤ) (s : Appends t g e x) w
       (entry-other t s.tabled g s.low s.high s.adds e k (omega arith) other)
       ∙ row_overflows-zero (width_for t (y_of k))
 
-  first_row : row_overflows e (width_for t (y_of g)) ≡ true
-      → first_from t.level (generators t) (y_overflows t y) ≡ Some g
-  first_row wide =
-      first_found (y_overflows t y) t.level (generators t) g s.low top
-      (λ k a b. row_other k a (λ f. omega arith)) (row_own ∙ wide)
-
-  no_row : row_overflows e (width_for t (y_of g)) ≡ false
-      → first_from t.level (generators t) (y_overflows t y) ≡ None
-  no_row fits =
-      first_none (y_overflows t y) t.level (generators t)
-      (λ k a b. elim (eqb_tells k g) [
-        | inl same ↦ ap (y_overflows t y) same.1 ∙ row_own ∙ fits
-        | inr other ↦ row_other k a other.1
-      ])
+  first_row : first_from t.level (generators t) (y_overflows t y)
+      ≡ only g (row_overflows e (width_for t (y_of g)))
+  first_row =
+      first_from-only (y_overflows t y) t.level (generators t) g s.low top
+      (λ k a b other. row_other k a other)
+      ∙ ap (only g) row_own
 
   -- ---- sums
   sum_own : sum_at_overflows t x y g ≡ overflows (unsigned_abs (entry x g) + unsigned_abs e)
@@ -117,113 +127,35 @@ module _ (t : Tabled) (g : ℕ) (e : ℤ) (x : List ℤ) (s : Appends t g e x) w
       (magnitude-other t s.tabled g s.low s.high s.adds x e s.above k l u other)
       ∙ lt-leb (2 ^ 127) (unsigned_abs (entry x k)) (entry_small k (omega arith) u)
 
-  first_sum : overflows (unsigned_abs (entry x g) + unsigned_abs e) ≡ true
-      → first_from t.level (generators t) (sum_at_overflows t x y) ≡ Some g
-  first_sum wide =
-      first_found (sum_at_overflows t x y) t.level (generators t) g s.low top
-      (λ k a b. sum_other k a (omega (arith, s.high)) (λ f. omega arith)) (sum_own ∙ wide)
-
-  no_sum : overflows (unsigned_abs (entry x g) + unsigned_abs e) ≡ false
-      → first_from t.level (generators t) (sum_at_overflows t x y) ≡ None
-  no_sum fits =
-      first_none (sum_at_overflows t x y) t.level (generators t)
-      (λ k a b. elim (eqb_tells k g) [
-        | inl same ↦ ap (sum_at_overflows t x y) same.1 ∙ sum_own ∙ fits
-        | inr other ↦ sum_other k a (omega arith) other.1
-      ])
+  first_sum : first_from t.level (generators t) (sum_at_overflows t x y)
+      ≡ only g (overflows (unsigned_abs (entry x g) + unsigned_abs e))
+  first_sum =
+      first_from-only (sum_at_overflows t x y) t.level (generators t) g s.low top
+      (λ k a b other. sum_other k a (omega arith) other)
+      ∙ ap (only g) sum_own
 
   -- ---- the outcome
-  abbrev of_found : Option ℕ → Option ℕ → Option ℕ → Outcome
-  of_found i j k = named RowX i (named RowY j (named Sum k (Ok (values t x y))))
+  abbrev after_x : Outcome → Outcome
+  after_x r = named RowX (first_from t.level (generators t) (x_overflows t x)) r
 
-  outcome : (i j k : Option ℕ) → first_from t.level (generators t) (x_overflows t x) ≡ i
-      → first_from t.level (generators t) (y_overflows t y) ≡ j
-      → first_from t.level (generators t) (sum_at_overflows t x y) ≡ k
-      → multiplied t x y ≡ of_found i j k
-  outcome i j k p q r = cc
+  multiplied-single : multiplied t x y ≡ appended t x g e
+  multiplied-single =
+      let wide = overflows (unsigned_abs (entry x g) + unsigned_abs e) in
+      let row = row_overflows e (width_for t (y_of g)) in
+      let sum : Outcome = named Sum (first_from t.level (generators t) (sum_at_overflows t x y))
+      (Ok (values t x y)) in
+      ap (λ i. after_x (named RowY i sum)) first_row
+      ∙ ap after_x (named-only RowY g row sum)
+      ∙ ap (λ i. after_x (unless row (RowY g) (named Sum i (Ok (values t x y))))) first_sum
+      ∙ ap (λ r. after_x (unless row (RowY g) r)) (named-only Sum g wide (Ok (values t x y)))
+      ∙ ap (λ v. after_x (unless row (RowY g) (unless wide (Sum g) (Ok v))))
+      (s.adds.adds e x s.vector s.above)
 
-  named_x : (i : Option ℕ) (rest : Outcome) (at : WideAt) → option_map RowX i ≡ Some at
-      → named RowX i rest ≡ Err at
-  named_x None rest at f = cc
-  named_x (Some k) rest at f = cc
-
-  pub appended_row_x : (at : WideAt)
-      → option_map RowX (first_from t.level (generators t) (x_overflows t x)) ≡ Some at
-      → multiplied t x y ≡ Err at
-  appended_row_x at f = named_x (first_from t.level (generators t) (x_overflows t x)) _ at f
-
-  pub appended_row_y : FitX → row_overflows e (width_for t (y_of g)) ≡ true
-      → multiplied t x y ≡ Err (RowY g)
-  appended_row_y fits wide = outcome None (Some g) _ fits (first_row wide) refl
-
-  pub appended_sum : FitX → row_overflows e (width_for t (y_of g)) ≡ false
-      → overflows (unsigned_abs (entry x g) + unsigned_abs e) ≡ true
-      → multiplied t x y ≡ Err (Sum g)
-  appended_sum fits row wide = outcome None None (Some g) fits (no_row row) (first_sum wide)
-
-  pub appended : FitX → row_overflows e (width_for t (y_of g)) ≡ false
-      → overflows (unsigned_abs (entry x g) + unsigned_abs e) ≡ false
-      → multiplied t x y ≡ Ok (added x g e)
-  appended fits row sum =
-      outcome None None None fits (no_row row) (no_sum sum)
-      ∙ ap (λ v. Ok v) (s.adds.adds e x s.vector s.above)
-
--- ---- the table and the numbers as the code has them
-pub record IsRun (t u : Tabled) (g : ℕ) (e z : ℤ) (x : List ℤ) : Type 0 where
-  pub asked : Appends t g e x
-  pub table : u ≡ t
-  pub exponent : z ≡ e
-  pub rows : first_from u.level (generators u) (x_overflows u x) ≡ None
-
-module _ {t u : Tabled} {g : ℕ} {e z : ℤ} {x : List ℤ} (r : IsRun t u g e z x) where
-  rows_there : first_from t.level (generators t) (x_overflows t x) ≡ None
-  rows_there =
-      subst (λ (s : Tabled). first_from s.level (generators s) (x_overflows s x) ≡ None) r.table
-      r.rows
-
-  row_there : (b : Bool) → row_overflows z (width_for u (y_of g)) ≡ b
-      → row_overflows e (width_for t (y_of g)) ≡ b
-  row_there b h =
-      ap (λ y. row_overflows y (width_for t (y_of g))) (sym r.exponent)
-      ∙ ap (λ (s : Tabled). row_overflows z (width_for s (y_of g))) (sym r.table) ∙ h
-
-  sum_there : (w : ℤ) → w ≡ entry x g
-      → unsigned_abs w + unsigned_abs z ≡ unsigned_abs (entry x g) + unsigned_abs e
-  sum_there w same =
-      ap (λ y. unsigned_abs y + unsigned_abs z) same
-      ∙ ap (λ y. unsigned_abs (entry x g) + unsigned_abs y) r.exponent
-
-  pub row_named : (at : WideAt) → row_overflows z (width_for u (y_of g)) ≡ true → at ≡ RowY g
-      → multiplied t x (single (last_of t) g e) ≡ Err at
-  row_named at wide is =
-      appended_row_y t g e x r.asked rows_there (row_there true wide) ∙ ap (λ p. Err p) (sym is)
-
-  pub sum_named : (w : ℤ) → row_overflows z (width_for u (y_of g)) ≡ false → w ≡ entry x g
-      → Overflows (unsigned_abs w + unsigned_abs z)
-      → multiplied t x (single (last_of t) g e) ≡ Err (Sum g)
-  sum_named w fits same wide =
-      appended_sum t g e x r.asked rows_there (row_there false fits)
-      (le-leb (2 ^ 127) (unsigned_abs (entry x g) + unsigned_abs e)
-      (subst Overflows (sum_there w same) wide))
-
-  pub sum_made : (w sum : ℤ) (new : List ℤ) → row_overflows z (width_for u (y_of g)) ≡ false
-      → w ≡ entry x g → (Overflows (unsigned_abs w + unsigned_abs z) → ⊥) → sum ≡ w +ℤ z
-      → new ≡ set x (g - 1) sum → multiplied t x (single (last_of t) g e) ≡ Ok new
-  sum_made w sum new fits same small is made =
-      appended t g e x r.asked rows_there (row_there false fits)
-      (no_leb (2 ^ 127) (unsigned_abs (entry x g) + unsigned_abs e)
-      (λ h. small (subst Overflows (sym (sum_there w same)) h)))
-      ∙ ap (λ v. Ok v)
-      (sym (made
-      ∙ ap (set x (g - 1)) (is ∙ ap (λ y. y +ℤ z) same ∙ ap (λ y. entry x g +ℤ y) r.exponent)))
-
-pub appends : (c : Paired) (g : ℕ) (e : ℤ) (x : List ℤ) → IsTabled c.table
-    → IsPresentation (relations_of c.pres) → IsChecked c → IsSyllableOf c g e → IsIn c x → AreSmall x
-    → IsZeroAbove g x → Appends c.table g e x
-appends c g e x tabled presents checked syllable vector small above =
-    let n = length c.pres.names in
+pub appended_is : (c : Paired) → IsTabled c.table → IsPresentation (relations_of c.pres) → IsChecked c
+    → AppendedIs c
+appended_is c tabled presents checked x g e written above syllable =
     let t = c.table in
-    record {
+    multiplied-single t g e x record {
       tabled = tabled;
       low = syllable.least;
       high = omega (arith, syllable.most, checked.last);
@@ -233,22 +165,7 @@ appends c g e x tabled presents checked syllable vector small above =
             (product-single (relations_of c.pres) t.level (values t) presents checked.multiplies g d z
             syllable.least syllable.most (subst (λ (m : ℕ). IsVector m t.level z) checked.last h) zero);
       };
-      vector = subst (λ (m : ℕ). IsVector m t.level x) (sym checked.last) vector;
-      small = small;
+      vector = subst (λ (m : ℕ). IsVector m t.level x) (sym checked.last) written.vector;
+      small = written.small;
       above = above;
     }
-
--- the entries from a place on
-pub zero_above : (x : List ℤ) (k n : ℕ) → length x ≤ k + n → All (λ z. z ≡ pos 0) (take n (drop k x))
-    → IsZeroAbove k x
-zero_above x k n size h m above =
-    elim (cases_lt (m - 1) (length x)) [
-      | inr past ↦ get_or_past x (m - 1) (pos 0) past
-      | inl within ↦
-          let place : k + (m - 1 - k) ≡ m - 1 = omega arith in
-          let all : take n (drop k x) ≡ drop k x =
-          take_all n (drop k x) (omega (arith, length-drop k x)) in
-          ap (λ (i : ℕ). get_or x i (pos 0)) (sym place)
-          ∙ sym (get_or-drop k x (m - 1 - k) (pos 0))
-          ∙ subst (All (λ z. z ≡ pos 0)) all h (m - 1 - k) (pos 0) (omega (arith, length-drop k x))
-    ]

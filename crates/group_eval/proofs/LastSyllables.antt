@@ -4,15 +4,12 @@
 --   x vector · t table
 use Rattle.std.proofs.Common.{◌≡◌, ◌≢◌, ℕ, ◌+◌, ◌-◌, ◌<◌, ◌≤◌, Bool, true, false, List, [], ◌∷◌, length, refl, sym, ap, ◌∙◌, subst, arith, inl, inr}
 use Rattle.std.specs.Prelude.{nat_le, ◌==◌, ◌&&◌, ◌||◌, IsTrue, unsigned_abs}
-use Rattle.std.specs.Ordering.{nat_cmp, ordering_then}
-use Rattle.std.specs.declared.cmp.Ordering.{Ordering}
-use Rattle.std.specs.declared.cmp.Ordering.TheVariants.{Less, Equal}
-use Rattle.std.proofs.lemmas.Bool.{cases_lt, lt-ltb}
+use Rattle.std.proofs.lemmas.Bool.{cases_lt}
 use Rattle.std.proofs.lemmas.Bool.Decides.{nat_tests, eqb_tells}
 use Rattle.std.proofs.lemmas.Int.{ints}
 use Rattle.std.proofs.lemmas.List.{get_or_past}
 use Rattle.std.proofs.lemmas.List.Elements.{All-weaker}
-use lib.IntN.{ℤ, pos, ◌+ℤ◌, ◌*ℤ◌}
+use lib.IntN.{ℤ, pos, ◌+ℤ◌}
 use Rattle.nil_word.specs.Words.{IsVector}
 use Rattle.nil_word.specs.Exponents.{entry}
 use Rattle.hall_law.specs.Table.{added, single, IsZeroAbove}
@@ -20,13 +17,9 @@ use Rattle.hall_law.proofs.Entries.{same_entries}
 use Rattle.hall_law.proofs.Vectors.{at_of, added_writes, part, part_same, part_other, IsAt-single}
 use Rattle.binom_poly.specs.declared.part.Part.{Part}
 use Rattle.binom_poly.specs.declared.term.Term.{Term}
-use Rattle.binom_poly.specs.Collected.{var_terms}
-use Rattle.binom_poly.specs.Dependence.{alone}
-use Rattle.binom_poly.specs.Monomial.{degree, monomial_cmp}
-use Rattle.binom_poly.specs.Polynomial.{monomial_value, value_of, IsPolynomial, IsPolynomialFrom}
+use Rattle.binom_poly.specs.Polynomial.{value_of, IsPolynomial}
 use Rattle.binom_poly.specs.Readings.{magnitude_of}
 use Rattle.binom_poly.specs.Variable.{y_of}
-use Rattle.binom_poly.proofs.Canonical.{polynomial-var, value-var_terms}
 use Rattle.binom_poly.proofs.Depending.{masked, masked_there, masked_elsewhere}
 use Rattle.hall_table.specs.Shape.{is_lower, AreLower}
 use Rattle.hall_table.specs.Tabled.{Tabled, IsTabled, last_of, poly_at}
@@ -35,63 +28,9 @@ use Rattle.hall_table.proofs.Covering.{poly_lower}
 use Rattle.hall_table.proofs.Entries.{entry-values, point_of-x, point_of-y, is_lower-bounds_x, is_lower-bounds_y}
 use Rattle.hall_table.proofs.OneTable.{x_at, y_at, entry-x_at, entry-y_at, IsVector-x_at, IsVector-y_at, value-at}
 use Rattle.hall_table.proofs.Putting.{Agree, magnitude-agree}
-use Rattle.hall_table.proofs.Widths.{x_variable, y_variable}
 use Rattle.group_eval.proofs.Appending.{entry-single}
+use Rattle.group_eval.proofs.FewVariables.{of_var, IsPolynomial-one, IsPolynomial-two, value-one, value-two, magnitude-one, magnitude-two}
 use Rattle.group_eval.proofs.Magnitudes.{magnitude-masked}
-
--- ---- one variable, and two
-of_var : ℕ → Term
-of_var v = record { monomial = alone v; coefficient = pos 1 }
-
-x_before_y : (g : ℕ) → monomial_cmp (alone g) (alone (y_of g)) ≡ Less
-unfolding degree
-x_before_y g =
-    let less : nat_cmp g (y_of g) ≡ Less = rw (lt-ltb g (y_of g) (omega arith)) refl in
-    ap (λ (o : Ordering). ordering_then (ordering_then o Equal) Equal) less
-
-IsPolynomial-one : (g : ℕ) → 1 ≤ g → g ≤ 48 → IsPolynomial (of_var g ∷ [])
-unfolding of_var
-IsPolynomial-one g low high = polynomial-var g (x_variable g low high) low
-
-IsPolynomial-two : (g : ℕ) → 1 ≤ g → g ≤ 48 → IsPolynomial (of_var g ∷ of_var (y_of g) ∷ [])
-unfolding of_var IsPolynomial IsPolynomialFrom
-IsPolynomial-two g low high = (
-  polynomial-var g (x_variable g low high) low,
-  x_before_y g,
-  polynomial-var (y_of g) (y_variable g low high) (omega arith),
-)
-
-value-one : (a : ℕ → ℤ) (g : ℕ) → value_of a (of_var g ∷ []) ≡ a g
-unfolding of_var
-value-one a g = value-var_terms a g
-
-value-two : (a : ℕ → ℤ) (g : ℕ) → value_of a (of_var g ∷ of_var (y_of g) ∷ []) ≡ a g +ℤ a (y_of g)
-unfolding of_var value_of
-value-two a g =
-    sum (pos 1 *ℤ monomial_value a (alone g)) (value_of a (var_terms (y_of g))) (a g) (a (y_of g)) (value-var_terms a g)
-    (value-var_terms a (y_of g))
-  where
-    sum : (w u y z : ℤ) → w +ℤ pos 0 ≡ y → u ≡ z → w +ℤ u ≡ y +ℤ z
-    sum w u y z e f = omega (arith, ints)
-
-magnitude-one : (a : ℕ → ℤ) (g : ℕ) → magnitude_of a (of_var g ∷ []) ≡ unsigned_abs (a g)
-unfolding of_var value_of magnitude_of
-magnitude-one a g = own (pos 1 *ℤ monomial_value a (alone g)) (a g) (value-var_terms a g)
-  where
-    own : (w z : ℤ) → w +ℤ pos 0 ≡ z → unsigned_abs w + 0 ≡ unsigned_abs z
-    own w z e = omega (arith, ints)
-
-magnitude-two : (a : ℕ → ℤ) (g : ℕ)
-    → magnitude_of a (of_var g ∷ of_var (y_of g) ∷ [])
-    ≡ unsigned_abs (a g) + unsigned_abs (a (y_of g))
-unfolding of_var value_of magnitude_of
-magnitude-two a g =
-    both (pos 1 *ℤ monomial_value a (alone g)) (pos 1 *ℤ monomial_value a (alone (y_of g))) (a g)
-    (a (y_of g)) (value-var_terms a g) (value-var_terms a (y_of g))
-  where
-    both : (w u y z : ℤ) → w +ℤ pos 0 ≡ y → u +ℤ pos 0 ≡ z
-        → unsigned_abs w + (unsigned_abs u + 0) ≡ unsigned_abs y + unsigned_abs z
-    both w u y z e f = omega (arith, ints)
 
 -- ---- the variables that may differ from 0: the x from the level up to g, and the y of g
 abbrev is_free : ℕ → ℕ → ℕ → Bool

@@ -6,8 +6,11 @@ pub mod Following
 pub mod Products
 pub mod Appending
 pub mod Magnitudes
+pub mod FewVariables
 pub mod LastSyllables
 pub mod Appended
+pub mod Scans
+pub mod Sums
 pub mod Rooms
 pub mod Halving
 pub mod Outcomes

@@ -3,8 +3,8 @@ pub mod Fault
 pub mod Elements
 pub mod Order
 pub mod Expressions
-pub mod Syllables
 pub mod Queries
 pub mod Right
 pub mod Laws
 pub mod ByValues
+pub mod Syllables

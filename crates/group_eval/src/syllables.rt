@@ -7,14 +7,16 @@ ghost use Rattle.hall_law.specs.Table.{IsZeroAbove, single};
 ghost use Rattle.hall_table.specs.Multiplies.{Paired, IsChecked};
 ghost use Rattle.hall_table.specs.Order.{multiplied};
 ghost use Rattle.hall_table.specs.Tabled.{Tabled, last_of};
+ghost use Rattle.hall_table.specs.Width.{HasRows};
 ghost use Rattle.group_eval.specs.ByValues.{IsIn};
 ghost use Rattle.group_eval.specs.Expressions.{evaluated, IsExprOf};
 ghost use Rattle.group_eval.specs.Space.{IsSpaceOf};
-ghost use Rattle.group_eval.specs.Syllables.{IsSyllableOf};
+ghost use Rattle.group_eval.specs.Syllables.{IsSyllableOf, appended};
 
+use super::laws::last_syllables;
 use super::workspace::Workspace;
-use hall_table::presentations::relations;
-use hall_table::{Checked, WideAt};
+use binom_poly::Rows;
+use hall_table::{Checked, Table, WideAt};
 use nil_num::{Past, add_fit};
 use nil_word::{Expr, Vector};
 
@@ -58,7 +60,7 @@ fn are_zero(numbers: &[i128]) -> bool
 /// Whether each entry above a generator is 0.
 pub(super) fn is_zero_above(vector: &Vector, k: u32) -> bool
     requires { k ≤ length vector.now }
-    ensures { IsTrue result → IsZeroAbove k vector.now }
+    ensures { IsTrue result ↔ IsZeroAbove k vector.now }
 {
     are_zero(&vector.entries()[k as usize..])
 }
@@ -75,7 +77,7 @@ fn sum(a: i128, b: i128) -> Result<i128, Past>
     }
 }
 
-/// Multiplies a syllable on, where each entry above its generator is 0: the exponent is added.
+/// Multiplies a syllable on, where each entry above its generator is 0.
 pub(super) fn append(
     ws: &mut Workspace,
     checked: &Checked,
@@ -91,21 +93,38 @@ pub(super) fn append(
         Writes result left.new (multiplied checked.now.table left.old power) }
     ensures ws { IsSpaceOf ws.new checked.now }
 {
-    relations();
+    last_syllables();
     // It is a lawful presentation, a table of the form, and a vector of numbers.
     let _count = checked.pres().count();
     let _level = checked.table().level();
     let _entries = left.entries();
-    let Syllable {
-        generator,
-        exponent,
-    } = syllable;
-    let table = checked.table();
-    table.put_x(&mut ws.rows, left)?;
-    table.set_y(&mut ws.rows, generator, exponent)?;
-    let Ok(total) = sum(left.at(generator), exponent) else {
-        return Err(WideAt::Sum(generator));
+    append_into(checked.table(), &mut ws.rows, left, syllable)
+}
+
+/// Adds the exponent to the generator's entry, or names the first place that overflows.
+fn append_into(
+    table: &Table,
+    rows: &mut Rows,
+    left: &mut Vector,
+    syllable: Syllable,
+) -> Result<(), WideAt>
+    requires left { length left.old ≡ last_of table.now }
+    requires least { table.now.level ≤ syllable.generator }
+    requires most { syllable.generator ≤ last_of table.now }
+    requires number { IsNumber syllable.exponent }
+    requires rows { HasRows table.now rows.old }
+    ensures order { Writes result left.new
+        (appended table.now left.old syllable.generator syllable.exponent) }
+    ensures rows { HasRows table.now rows.new }
+{
+    // It is at least 1.
+    let _level = table.level();
+    let k = syllable.generator;
+    table.put_x(rows, left)?;
+    table.set_y(rows, k, syllable.exponent)?;
+    let Ok(total) = sum(left.at(k), syllable.exponent) else {
+        return Err(WideAt::Sum(k));
     };
-    left.set(generator, total);
+    left.set(k, total);
     Ok(())
 }
