@@ -29,7 +29,8 @@ use Rattle.group_eval.specs.Right.{AreSmall}
 use Rattle.group_eval.specs.Order.{Outcome, unless}
 use Rattle.group_eval.specs.Syllables.{appended, AppendedIs}
 use Rattle.group_eval.proofs.Appending.{product-single}
-use Rattle.group_eval.proofs.LastSyllables.{AddsAt, entry-other, entry-own, magnitude-own, magnitude-other}
+use Rattle.group_eval.proofs.CutPoints.{AddsAt, entry-other, entry-own}
+use Rattle.group_eval.proofs.LastSyllables.{magnitude-own, magnitude-other}
 
 -- ---- the row of 0
 written_product-zero : (k : ℕ) → written_product (pos 0) k ≡ pos 0
@@ -76,9 +77,6 @@ named-only place g false r = refl
 
 -- ---- what is asked of the syllable
 pub record Appends (t : Tabled) (g : ℕ) (x : List ℤ) : Type 0 where
-  pub tabled : IsTabled t
-  pub low : t.level ≤ g
-  pub high : g ≤ last_of t
   pub adds : AddsAt t g
   pub vector : IsVector (last_of t) t.level x
   pub small : AreSmall x
@@ -89,32 +87,32 @@ module _ (t : Tabled) (g : ℕ) (e : ℤ) (x : List ℤ) (s : Appends t g x) whe
   y = single (last_of t) g e
 
   top : g < t.level + generators t
-  top = let some : 0 < length t.polys = s.tabled.nonempty in omega (arith, s.high)
+  top = let some : 0 < length t.polys = s.adds.tabled.nonempty in omega (arith, s.adds.high)
 
   -- ---- rows
   row_own : y_overflows t y g ≡ row_overflows e (width_for t (y_of g))
   row_own =
       ap (λ z. row_overflows z (width_for t (y_of g)))
-      (entry-own t s.tabled g s.low s.high s.adds e)
+      (entry-own t g s.adds e)
 
   row_other : (k : ℕ) → t.level ≤ k → k ≢ g → y_overflows t y k ≡ false
   row_other k l other =
-      let least : 1 ≤ t.level = s.tabled.least in
+      let least : 1 ≤ t.level = s.adds.tabled.least in
       ap (λ z. row_overflows z (width_for t (y_of k)))
-      (entry-other t s.tabled g s.low s.high s.adds e k (omega arith) other)
+      (entry-other t g s.adds e k (omega arith) other)
       ∙ row_overflows-zero (width_for t (y_of k))
 
   first_row : first_from t.level (generators t) (y_overflows t y)
       ≡ only g (row_overflows e (width_for t (y_of g)))
   first_row =
-      first_from-only (y_overflows t y) t.level (generators t) g s.low top
+      first_from-only (y_overflows t y) t.level (generators t) g s.adds.low top
       (λ k a b other. row_other k a other)
       ∙ ap (only g) row_own
 
   -- ---- sums
   sum_own : sum_at_overflows t x y g ≡ overflows (unsigned_abs (entry x g) + unsigned_abs e)
   sum_own =
-      ap (λ n. overflows n) (magnitude-own t s.tabled g s.low s.high s.adds x e s.above)
+      ap (λ n. overflows n) (magnitude-own t g s.adds x e s.above)
 
   entry_small : (k : ℕ) → 1 ≤ k → k ≤ last_of t → IsNumber (entry x k)
   entry_small k l u =
@@ -122,15 +120,15 @@ module _ (t : Tabled) (g : ℕ) (e : ℤ) (x : List ℤ) (s : Appends t g x) whe
 
   sum_other : (k : ℕ) → t.level ≤ k → k ≤ last_of t → k ≢ g → sum_at_overflows t x y k ≡ false
   sum_other k l u other =
-      let least : 1 ≤ t.level = s.tabled.least in
+      let least : 1 ≤ t.level = s.adds.tabled.least in
       ap (λ n. overflows n)
-      (magnitude-other t s.tabled g s.low s.high s.adds x e s.above k l u other)
+      (magnitude-other t g s.adds x e s.above k l u other)
       ∙ lt-leb (2 ^ 127) (unsigned_abs (entry x k)) (entry_small k (omega arith) u)
 
   first_sum : first_from t.level (generators t) (sum_at_overflows t x y)
       ≡ only g (overflows (unsigned_abs (entry x g) + unsigned_abs e))
   first_sum =
-      first_from-only (sum_at_overflows t x y) t.level (generators t) g s.low top
+      first_from-only (sum_at_overflows t x y) t.level (generators t) g s.adds.low top
       (λ k a b other. sum_other k a (omega arith) other)
       ∙ ap (only g) sum_own
 
@@ -156,10 +154,10 @@ pub appended_is : (c : Paired) → IsTabled c.table → IsPresentation (relation
 appended_is c tabled presents checked x g e written above syllable =
     let t = c.table in
     multiplied-single t g e x record {
-      tabled = tabled;
-      low = syllable.least;
-      high = omega (arith, syllable.most, checked.last);
       adds = record {
+        tabled = tabled;
+        low = syllable.least;
+        high = omega (arith, syllable.most, checked.last);
         adds = λ d z h zero.
             subst (λ (m : ℕ). values t z (single m g d) ≡ added z g d) (sym checked.last)
             (product-single (relations_of c.pres) t.level (values t) presents checked.multiplies g d z

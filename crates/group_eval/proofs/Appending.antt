@@ -46,7 +46,6 @@ module _ (rels : Relations) (level : ℕ) (f : Operation) (p : IsPresentation re
       (λ m a b. let w = made.at m a in
       omega (arith, ints, w, entry-zeros n m, entry-single n g e m positive high a)) in
       let written = power_writes own e g low high u zero in
-      let at : 1 ≤ g = positive in
       let top : g ≤ length x = omega (arith, h.entries) in
       let sum = added_writes x g e positive top in
       ap (λ (v : Vec n level). (mul own u v).0) (sym is)

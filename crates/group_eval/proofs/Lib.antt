@@ -7,6 +7,7 @@ pub mod Products
 pub mod Appending
 pub mod Magnitudes
 pub mod FewVariables
+pub mod CutPoints
 pub mod LastSyllables
 pub mod Appended
 pub mod Scans

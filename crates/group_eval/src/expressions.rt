@@ -117,7 +117,8 @@ fn multiply_on(
     requires room { length room.old ≡ length checked.now.pres.names }
     requires ws { IsSpaceOf ws.old checked.now }
     ensures order { let t = checked.now.table in
-        Gives place_of result (λ r. Writes r left.new (and_then (evaluated t item.now) (multiplied t left.old))) }
+        let joined = and_then (evaluated t item.now) (multiplied t left.old) in
+        Gives place_of result (λ r. Writes r left.new joined) }
     ensures room { length room.new ≡ length checked.now.pres.names }
     ensures ws { IsSpaceOf ws.new checked.now }
 {
