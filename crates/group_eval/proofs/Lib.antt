@@ -4,6 +4,14 @@ pub mod Clearing
 pub mod Holding
 pub mod Following
 pub mod Products
+pub mod Appending
+pub mod Magnitudes
+pub mod FewVariables
+pub mod CutPoints
+pub mod LastSyllables
+pub mod Appended
+pub mod Scans
+pub mod Sums
 pub mod Rooms
 pub mod Halving
 pub mod Outcomes
@@ -17,4 +25,5 @@ pub mod NarrowEvaluations
 pub mod Levels
 pub mod Replies
 pub mod Parts
+pub mod Joining
 pub mod ByValues

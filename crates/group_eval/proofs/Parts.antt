@@ -87,32 +87,35 @@ outcomes-drop t es i e l is =
     ∙ ap (λ x. evaluated t x ∷ outcomes t (drop (suc i) es)) (sym is)
     ∙ ap (λ n. evaluated t e ∷ outcomes t (drop n es)) (sym (add-one i))
 
--- the items from one on, where its outcome is known
-abbrev after : Tabled → List ℤ → Outcome → List Outcome → Outcome
-after t a r rs = and_then r (λ b. and_then (multiplied t a b) (λ c. joined t c rs))
+and_then-and_then : (r : Outcome) (f g : List ℤ → Outcome)
+    → and_then r (λ b. and_then (f b) g) ≡ and_then (and_then r f) g
+and_then-and_then (Ok a) f g = refl
+and_then-and_then (Err at) f g = refl
 
-pub joined-more : (t : Tabled) (a b p : List ℤ) (es : List Expr) (i : ℕ) (e : Expr) → i < length es
-    → e ≡ get_or es i e → evaluated t e ≡ Ok b → multiplied t a b ≡ Ok p
-    → joined t a (outcomes t (drop i es)) ≡ joined t p (outcomes t (drop (i + 1) es))
-joined-more t a b p es i e l is f g =
-    let rs = outcomes t (drop (i + 1) es) in
-    ap (joined t a) (outcomes-drop t es i e l is) ∙ ap (λ r. after t a r rs) f
-    ∙ ap (λ r. and_then r (λ c. joined t c rs)) g
-
-pub joined-item_wide : (t : Tabled) (a : List ℤ) (es : List Expr) (i : ℕ) (e : Expr) (at : WideAt)
-    → i < length es → e ≡ get_or es i e → evaluated t e ≡ Err at
-    → joined t a (outcomes t (drop i es)) ≡ Err at
-joined-item_wide t a es i e at l is f =
+-- the items from one on: that one is multiplied on, and then the others
+joined-drop : (t : Tabled) (a : List ℤ) (es : List Expr) (i : ℕ) (e : Expr) → i < length es
+    → e ≡ get_or es i e
+    → joined t a (outcomes t (drop i es))
+    ≡ and_then (and_then (evaluated t e) (multiplied t a))
+    (λ c. joined t c (outcomes t (drop (i + 1) es)))
+joined-drop t a es i e l is =
     ap (joined t a) (outcomes-drop t es i e l is)
-    ∙ ap (λ r. after t a r (outcomes t (drop (i + 1) es))) f
+    ∙ and_then-and_then (evaluated t e) (multiplied t a)
+    (λ c. joined t c (outcomes t (drop (i + 1) es)))
 
-pub joined-product_wide : (t : Tabled) (a b : List ℤ) (es : List Expr) (i : ℕ) (e : Expr) (at : WideAt)
-    → i < length es → e ≡ get_or es i e → evaluated t e ≡ Ok b → multiplied t a b ≡ Err at
+pub joined-more : (t : Tabled) (a p : List ℤ) (es : List Expr) (i : ℕ) (e : Expr) → i < length es
+    → e ≡ get_or es i e → and_then (evaluated t e) (multiplied t a) ≡ Ok p
+    → joined t a (outcomes t (drop i es)) ≡ joined t p (outcomes t (drop (i + 1) es))
+joined-more t a p es i e l is f =
+    joined-drop t a es i e l is
+    ∙ ap (λ r. and_then r (λ c. joined t c (outcomes t (drop (i + 1) es)))) f
+
+pub joined-wide : (t : Tabled) (a : List ℤ) (es : List Expr) (i : ℕ) (e : Expr) (at : WideAt)
+    → i < length es → e ≡ get_or es i e → and_then (evaluated t e) (multiplied t a) ≡ Err at
     → joined t a (outcomes t (drop i es)) ≡ Err at
-joined-product_wide t a b es i e at l is f g =
-    let rs = outcomes t (drop (i + 1) es) in
-    ap (joined t a) (outcomes-drop t es i e l is) ∙ ap (λ r. after t a r rs) f
-    ∙ ap (λ r. and_then r (λ c. joined t c rs)) g
+joined-wide t a es i e at l is f =
+    joined-drop t a es i e l is
+    ∙ ap (λ r. and_then r (λ c. joined t c (outcomes t (drop (i + 1) es)))) f
 
 pub product_begins : (t : Tabled) (es : List Expr) (e : Expr) (a : List ℤ) → 0 < length es
     → e ≡ get_or es 0 e → evaluated t e ≡ Ok a

@@ -7,3 +7,4 @@ pub mod Queries
 pub mod Right
 pub mod Laws
 pub mod ByValues
+pub mod Syllables

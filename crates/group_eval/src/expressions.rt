@@ -4,9 +4,12 @@ ghost use Rattle.std.specs.Prelude.{◌≡◌, length, OnOk, OnErr};
 ghost use Rattle.nil_num.specs.Outcome.{Gives, Writes};
 ghost use Rattle.nil_word.specs.Expressions.{unrolled, IsShaped};
 ghost use Rattle.hall_table.specs.Multiplies.{IsChecked};
+ghost use Rattle.hall_table.specs.Order.{multiplied};
+ghost use Rattle.group_eval.specs.ByValues.{IsIn};
 ghost use Rattle.group_eval.specs.Elements.{IsOf};
 ghost use Rattle.group_eval.specs.Expressions.{evaluated, IsFrom, IsExprOf};
 ghost use Rattle.group_eval.specs.Fault.{place_of};
+ghost use Rattle.group_eval.specs.Order.{and_then};
 ghost use Rattle.group_eval.specs.Space.{IsSpaceOf};
 
 use super::eval_fault::{EvalFault, Evaluated};
@@ -14,6 +17,7 @@ use super::laws::expressions;
 use super::multiplying::multiply;
 use super::pairing::{Pairing, pair};
 use super::powering::power;
+use super::syllables::{append, is_zero_above, syllable_of};
 use super::workspace::Workspace;
 use hall_table::Checked;
 use nil_word::{Expr, Vector};
@@ -86,14 +90,50 @@ fn product_of(alloc: Global, ws: &mut Workspace, checked: &Checked, items: &[Exp
         (λ r. evaluated checked.now.table (Expr.Product items.now) ≡ r) }
     ensures ws { IsSpaceOf ws.new checked.now }
 {
+    expressions();
+    // It is a lawful presentation, and a table of the form.
+    let n = checked.pres().count();
+    let _level = checked.table().level();
     let mut left = vector_of(alloc, ws, checked, &items[0])?;
-    let mut product = Vector::zero(alloc, checked.pres().count())?;
+    let mut room = Vector::zero(alloc, n)?;
     for item in &items[1..] {
-        let right = vector_of(alloc, ws, checked, item)?;
-        multiply(ws, checked, &left, &right, &mut product)?;
-        swap(&mut left, &mut product);
+        multiply_on(alloc, ws, checked, item, &mut left, &mut room)?;
     }
     Ok(left)
+}
+
+/// Multiplies an item on. A syllable whose generator is the last so far takes no multiplication.
+#[cycle(vectors)]
+fn multiply_on(
+    alloc: Global,
+    ws: &mut Workspace,
+    checked: &Checked,
+    item: &Expr,
+    left: &mut Vector,
+    room: &mut Vector,
+) -> Result<(), EvalFault>
+    requires item { IsExprOf checked.now item.now }
+    requires left { IsIn checked.now left.old }
+    requires room { length room.old ≡ length checked.now.pres.names }
+    requires ws { IsSpaceOf ws.old checked.now }
+    ensures order { let t = checked.now.table in
+        let joined = and_then (evaluated t item.now) (multiplied t left.old) in
+        Gives place_of result (λ r. Writes r left.new joined) }
+    ensures room { length room.new ≡ length checked.now.pres.names }
+    ensures ws { IsSpaceOf ws.new checked.now }
+{
+    if let Some(syllable) = syllable_of(item) {
+        if is_zero_above(left, syllable.generator) {
+            append(ws, checked, left, syllable)?;
+            return Ok(());
+        }
+    }
+    // Its vectors have an entry for each name of the presentation.
+    let _table = checked.table();
+    let right = vector_of(alloc, ws, checked, item)?;
+    multiply(ws, checked, left, &right, room)?;
+    swap(left, room);
+    Ok(())
 }
 
 /// The vector of a power. One of a generator takes no multiplication.

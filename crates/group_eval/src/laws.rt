@@ -6,6 +6,7 @@ ghost use Rattle.nil_word.specs.Expressions.{IsShaped};
 ghost use Rattle.group_eval.specs.Expressions.{IsFrom};
 ghost use Rattle.group_eval.specs.ByValues.{MultipliedByValues, SolvedByValues, InvertedByValues, DividedByValues, PoweredByValues, CommutedByValues, ConjugatedByValues};
 ghost use Rattle.group_eval.specs.Laws.{OfChecked, MultipliedIs, SolvedIs, InvertedIs, DividedIs, PoweredIs, CommutedIs, ConjugatedIs, EvaluatedIs, AnsweredIs};
+ghost use Rattle.group_eval.specs.Syllables.{AppendedIs};
 
 use hall_law::laws::{elements as vectors, uniqueness};
 use hall_table::laws::shaped;
@@ -45,6 +46,14 @@ pub fn by_values()
     shaped();
     vectors();
     uniqueness();
+}
+
+/// Where a vector is 0 above a generator, its product with a power of the generator takes one
+/// addition.
+pub fn last_syllables()
+    ensures { OfChecked AppendedIs }
+{
+    relations();
 }
 
 /// The written order of an expression gives the vector of its word.

@@ -17,6 +17,7 @@ mod pairing;
 mod powering;
 mod reply;
 mod solving;
+mod syllables;
 mod workspace;
 
 pub use answering::answer;

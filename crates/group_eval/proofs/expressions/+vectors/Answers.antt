@@ -1,4 +1,4 @@
-use Rattle.std.proofs.Common.{◌≡◌, ◌+◌, ◌-◌, pos, Ok, Err, length, take, drop, sym, ◌∙◌, ap, subst, rules}
+use Rattle.std.proofs.Common.{◌≡◌, ◌-◌, pos, Ok, Err, length, take, drop, sym, ◌∙◌, ap, subst, rules}
 use Rattle.std.specs.Prelude.{IfSome, Option, Some, None}
 use Rattle.std.proofs.lemmas.Int.{to_z-of_z}
 use Rattle.std.proofs.lemmas.List.{length-replicate}
@@ -7,17 +7,19 @@ use mir.Syntax.{w128}
 use Rattle.nil_num.specs.Outcome.{Gives}
 use Rattle.nil_word.specs.declared.expr.Expr.TheVariants.{Product}
 use Rattle.hall_table.specs.declared.wide_at.WideAt.{WideAt}
-use Rattle.hall_table.specs.Tabled.{last_of}
+use Rattle.nil_pres.specs.Presented.{IsPresented}
+use Rattle.hall_table.specs.Tabled.{IsTabled, last_of}
+use Rattle.hall_table.specs.Order.{multiplied}
 use Rattle.hall_law.specs.Table.{zeros, single}
 use Rattle.hall_law.specs.Plan.{put}
 use Rattle.group_eval.specs.declared.pairing.Pairing.TheVariants.{Conjugate, Commutator}
 use Rattle.group_eval.specs.Fault.{place_of}
-use Rattle.group_eval.specs.Order.{powered}
+use Rattle.group_eval.specs.Order.{and_then, powered}
 use Rattle.group_eval.specs.Expressions.{joined, evaluated, IsExprOf}
 use Rattle.group_eval.proofs.Singles.{set-zeros}
 use Rattle.group_eval.proofs.Evaluations.{outcomes}
-use Rattle.group_eval.proofs.Narrow.{narrow_multiplied}
-use Rattle.group_eval.proofs.Parts.{items_some, take-rest, rest_shaped, rest_from, joined-more, joined-item_wide, joined-product_wide, product_begins, power-generator, power-other, evaluated-Conj, evaluated-Comm, evaluated-Gen, pair-parts, base_in, first_in, conj_parts_in, comm_parts_in, length-evaluated}
+use Rattle.group_eval.proofs.Joining.{IsIn-evaluated, IsIn-joined}
+use Rattle.group_eval.proofs.Parts.{items_some, take-rest, rest_shaped, rest_from, joined-more, joined-wide, product_begins, power-generator, power-other, evaluated-Conj, evaluated-Comm, evaluated-Gen, pair-parts, base_in, first_in, conj_parts_in, comm_parts_in, length-evaluated}
 use Rattle.group_eval.proofs.expressions.+vectors.Goals as goal
 
 -- the place of a fault stays
@@ -88,89 +90,82 @@ power_of-returns t c =
 -- the items but the first are what a slice has of them
 pub product_of-loop-item-init : goal.product_of-loop-item-init
 product_of-loop-item-init t c =
-    let table = c.args.checked.now.table in
-    let n = length c.args.checked.now.pres.names in
+    let checked = c.args.checked.now in
+    let table = checked.table in
+    let n = length checked.pres.names in
     let items = c.args.items.now in
-    let first = first_in c.args.checked.now items c.index-items-0.result
+    let first = first_in checked items c.index-items-0.result
     (items_some n items c.requires.items.shaped) c.index-items-0.is c.requires.items in
     record {
       shaped = rest_shaped n items c.requires.items.shaped;
       level = rest_from table.level items c.requires.items.level;
       ws = c.in_ok-left.ensures.ws;
-      left = length-evaluated c.args.checked.now c.index-items-0.result c.in_ok-left.left first
-          c.in_ok-left.ensures.order
-          ∙ c.pres.ensures.multiplies.last;
-      product = ap length c.in_ok-product.ensures ∙ length-replicate c.count.result (pos 0)
-          ∙ c.count.ensures.count ∙ ap (λ p. length p.names) c.pres.ensures.pres;
+      left = IsIn-evaluated checked c.index-items-0.result c.in_ok-left.left
+          (c.expressions.ensures checked (subst IsPresented c.pres.ensures.pres c.count-n.ensures.lawful)
+          (subst IsTabled c.table.ensures.table c.level-level.ensures.form)
+          c.pres.ensures.multiplies)
+          first c.in_ok-left.ensures.order;
+      room = ap length c.in_ok-room.ensures ∙ length-replicate c.count-n.result (pos 0)
+          ∙ c.count-n.ensures.count ∙ ap (λ p. length p.names) c.pres.ensures.pres;
       made = ap (λ es. joined table c.in_ok-left.left (outcomes table es)) (take-rest items)
           ∙ sym (product_begins table items c.index-items-0.result c.in_ok-left.left
           (items_some n items c.requires.items.shaped) c.index-items-0.is
           c.in_ok-left.ensures.order);
     }
 
-pub product_of-multiply-requires-clause-vectors : goal.product_of-multiply-requires-clause-vectors
-product_of-multiply-requires-clause-vectors t c =
-    let item : IsExprOf c.args.checked.now c.item-item.result = search rules in (
-      c.loop-item.invariant.left,
-      (
-        length-evaluated c.args.checked.now c.item-item.result c.in_ok-right.right item
-            c.in_ok-right.ensures.order
-            ∙ c.pres.ensures.multiplies.last,
-        (c.loop-item.invariant.product, tt),
-      ),
-    )
-
-pub product_of-returns-in_err-right-clause-order :
-    goal.product_of-returns-in_err-right-clause-order
-product_of-returns-in_err-right-clause-order t c =
-    let table = c.args.checked.now.table in
-    let items = c.args.items.now in
-    let p = err_from_is_err_and c.from_residual-in_err-right.result
-    c.from_residual-in_err-right.ensures.1 in
-    rw (p.1, p.2)
-    (refused_more (place_of c.in_err-right.field-0.0)
-    (λ at. evaluated table c.item-item.result ≡ Err at)
-    (λ at. evaluated table (Product items) ≡ Err at)
-    (λ at h.
-    sym c.loop-item.invariant.made
-    ∙ joined-item_wide table c.loop-item.left (take (length items - 1) (drop 1 items))
-    c.loop-item.item-index c.item-item.result at c.loop-item-test.true c.item-item.is h)
-    c.in_err-right.ensures.order)
-
-pub product_of-returns-in_err-multiply-clause-order :
-    goal.product_of-returns-in_err-multiply-clause-order
-product_of-returns-in_err-multiply-clause-order t c =
-    let items = c.args.items.now in
-    let p = err_from_is_err_and c.from_residual-in_err-multiply.result
-    c.from_residual-in_err-multiply.ensures.1 in
-    rw (p.1, p.2)
-    (sym c.loop-item.invariant.made
-    ∙ joined-product_wide c.args.checked.now.table c.loop-item.left c.in_ok-right.right
-    (take (length items - 1) (drop 1 items)) c.loop-item.item-index c.item-item.result
-    c.in_err-multiply.field-0.0 c.loop-item-test.true c.item-item.is c.in_ok-right.ensures.order
-    c.in_err-multiply.ensures.order)
-
-pub product_of-loop-item-preserved : goal.product_of-loop-item-preserved
-product_of-loop-item-preserved t c =
+pub product_of-returns-in_err-multiply_on-clause-order :
+    goal.product_of-returns-in_err-multiply_on-clause-order
+product_of-returns-in_err-multiply_on-clause-order t c =
     let table = c.args.checked.now.table in
     let items = c.args.items.now in
     let rest = take (length items - 1) (drop 1 items) in
+    let p = err_from_is_err_and c.from_residual-in_err-multiply_on.result
+    c.from_residual-in_err-multiply_on.ensures.1 in
+    rw (p.1, p.2)
+    (refused_more (place_of c.in_err-multiply_on.field-0.0)
+    (λ at. and_then (evaluated table c.item-item.result) (multiplied table c.loop-item.left) ≡ Err at)
+    (λ at. evaluated table (Product items) ≡ Err at)
+    (λ at h.
+    sym c.loop-item.invariant.made
+    ∙ joined-wide table c.loop-item.left rest c.loop-item.item-index c.item-item.result at
+    c.loop-item-test.true c.item-item.is h)
+    c.in_err-multiply_on.ensures.order)
+
+pub product_of-loop-item-preserved : goal.product_of-loop-item-preserved
+product_of-loop-item-preserved t c =
+    let checked = c.args.checked.now in
+    let table = checked.table in
+    let items = c.args.items.now in
+    let rest = take (length items - 1) (drop 1 items) in
+    let item : IsExprOf checked c.item-item.result = search rules in
     record {
       shaped = c.loop-item.invariant.shaped;
       level = c.loop-item.invariant.level;
-      ws = c.in_ok-multiply.ensures.ws;
-      left = ap length c.swap.ensures.x_after
-          ∙ (narrow_multiplied table c.loop-item.left c.in_ok-right.right c.multiply.new.out
-          c.in_ok-multiply.ensures.order).entries
-          ∙ c.pres.ensures.multiplies.last;
-      product = ap length c.swap.ensures.y_after ∙ c.loop-item.invariant.left;
-      made = ap (λ v. joined table v (outcomes table (drop (c.loop-item.item-index + 1) rest)))
-          c.swap.ensures.x_after
-          ∙ sym (joined-more table c.loop-item.left c.in_ok-right.right c.multiply.new.out rest
+      ws = c.in_ok-multiply_on.ensures.ws;
+      left = IsIn-joined checked c.item-item.result c.loop-item.left c.multiply_on.new.left
+          c.pres.ensures.multiplies
+          (c.expressions.ensures checked (subst IsPresented c.pres.ensures.pres c.count-n.ensures.lawful)
+          (subst IsTabled c.table.ensures.table c.level-level.ensures.form)
+          c.pres.ensures.multiplies)
+          item c.loop-item.invariant.left c.in_ok-multiply_on.ensures.order;
+      room = c.in_ok-multiply_on.ensures.room;
+      made = sym (joined-more table c.loop-item.left c.multiply_on.new.left rest
           c.loop-item.item-index c.item-item.result c.loop-item-test.true c.item-item.is
-          c.in_ok-right.ensures.order c.in_ok-multiply.ensures.order)
+          c.in_ok-multiply_on.ensures.order)
           ∙ c.loop-item.invariant.made;
     }
+
+-- ---- an item multiplied on
+pub multiply_on-multiply-requires-clause-vectors : goal.multiply_on-multiply-requires-clause-vectors
+multiply_on-multiply-requires-clause-vectors t c = (
+  c.requires.left.entries,
+  (
+    length-evaluated c.args.checked.now c.args.item.now c.in_ok-right.right c.requires.item
+        c.in_ok-right.ensures.order
+        ∙ c.table-table.ensures.multiplies.last,
+    (c.requires.room, tt),
+  ),
+)
 
 pub vector_of-pair-requires-clause-vectors : goal.vector_of-pair-requires-clause-vectors
 vector_of-pair-requires-clause-vectors t c =
