@@ -26,14 +26,19 @@ impl Model for Collector {
 impl Replier for Collector {
     ghost use Rattle.collect_text.specs.Replies.{reply};
     ghost use Rattle.collect_text.specs.LongLines.{reply-held};
+    ghost use Rattle.session_io.specs.Recalling.{RecallsNothing};
 
     ghost reply = { λ p. reply p };
+
+    ghost recalls = { λ _. RecallsNothing };
 
     fn reply_to(&mut self, alloc: Global, line: &[u8]) -> Result<String, AllocError> {
         reply_to(alloc, &self.pres, line)
     }
 
     ghost settled = { reply-held };
+
+    ghost widens = { λ _ _ _ nothing. nothing };
 }
 
 impl Collector {

@@ -1,5 +1,7 @@
 -- Replies end at a line's end.
-use Rattle.std.proofs.Common.{ℕ, nat_lt, Bool, cond, true, false, inl, inr, List, length, Result, Ok, Err, refl, codes}
+use Rattle.std.proofs.Common.{◌≡◌, ℕ, nat_lt, Bool, cond, true, false, inl, inr, List, length, Result, Ok, Err, IfOk, String, string_bytes, refl, sym, subst, codes}
+use Rattle.std.specs.declared.alloc.Global.{Global}
+use Rattle.std.proofs.lemmas.Result.{IfOk-weaker}
 use Rattle.std.specs.Str.Lines.{strip_carriage_return}
 use Rattle.nil_word.specs.declared.query.Query.{Query}
 use Rattle.word_text.specs.declared.query_fault.QueryFault.{QueryFault}
@@ -33,3 +35,9 @@ EndsAtLine-reply c line =
     EndsAtLine-cond (nat_lt line_limit (length line)) (codes "long")
     (reply_to c (reading c.pres.names (strip_carriage_return line)))
     (EndsAtLine-reply_to c (reading c.pres.names (strip_carriage_return line)))
+
+pub EndsAtLine-text : {E : Type 0} (text : Result (String Global) E) (c : Paired) (line : List ℕ)
+    → IfOk text (λ t. string_bytes t ≡ reply c line) → IfOk text (λ t. EndsAtLine (string_bytes t))
+EndsAtLine-text text c line =
+    IfOk-weaker text (λ t. string_bytes t ≡ reply c line) (λ t. EndsAtLine (string_bytes t))
+    (λ t h. subst EndsAtLine (sym h) (EndsAtLine-reply c line))

@@ -1,3 +1,5 @@
 pub mod Replies
 pub mod LongLines
 pub mod Right
+pub mod Memoized
+pub mod MoreLines

@@ -37,14 +37,19 @@ impl Model for Calculator {
 impl Replier for Calculator {
     ghost use Rattle.query_replies.specs.Replies.{reply};
     ghost use Rattle.query_replies.specs.LongLines.{reply-held};
+    ghost use Rattle.session_io.specs.Recalling.{RecallsNothing};
 
     ghost reply = { λ c. reply c };
+
+    ghost recalls = { λ _. RecallsNothing };
 
     fn reply_to(&mut self, alloc: Global, line: &[u8]) -> Result<String, AllocError> {
         reply_to(alloc, self, line)
     }
 
     ghost settled = { reply-held };
+
+    ghost widens = { λ _ _ _ nothing. nothing };
 }
 
 impl Calculator {

@@ -4,6 +4,9 @@
 
 mod calculator;
 pub mod laws;
+mod memoized;
+mod remembering;
 mod replies;
 
 pub use calculator::Calculator;
+pub use memoized::MemoizedCalculator;

@@ -11,13 +11,14 @@ use Rattle.session_io.specs.Files.{Got}
 use Rattle.session_io.specs.Lines.{as_lines}
 use Rattle.session_io.specs.Answers.{by_reply, IsPromised, IsOutput, IsAnswered}
 use Rattle.session_io.specs.Stops.{IsFront}
+use Rattle.session_io.proofs.Appending.{Appends-none}
 use Rattle.session_io.proofs.Weakening.{IsAnswered-weaker}
 use Rattle.query_session.specs.declared.usage_kind.UsageKind.TheVariants as reason
 use Rattle.query_session.specs.declared.refusal.Refusal.{Refusal}
 use Rattle.query_session.specs.declared.status.Status.{Status}
 use Rattle.query_session.specs.declared.status.Status.TheVariants as s
 use Rattle.query_session.specs.Statuses.{text_of, outcome_status, Ended}
-use Rattle.query_session.specs.Runs.{IsWhole, before, answered, IsPromise, refusal, answers, at_line, Wrote, IsRun, IsRunOver}
+use Rattle.query_session.specs.Runs.{IsWhole, before, answered, IsPromise, refusal, answers, nothing, at_line, Wrote, IsRun, IsRunOver}
 use Rattle.query_session.specs.Refusals.{Says}
 use Rattle.query_session.specs.Opening.{HasOpened, HasRefusal}
 use Rattle.query_session.specs.Ends.{IsAnsweredAs, IsRefusedAs, RefusesWith}
@@ -136,6 +137,37 @@ module _ (I : Type 0) (refused : Asked → List Got → List (List ℕ) → Stat
   write_fault-result X found k (inr x) = x
   write_fault-result X (Ok i) k (inl h) = absurd h
   write_fault-result X (Err d) k (inl h) = absurd (not_written d k h)
+
+-- a session that finds no memory before it begins
+IsRun-nothing : (whole : List Got → List ℕ → List ℕ → Status → List ℕ → Type 0)
+    (promise : List Got → List ℕ → List ℕ → List ℕ → Type 0) (limit : ℕ) (a : Asked) (f : Fed)
+    (o : Option (List ℕ)) → IsUntouched f → IsRun whole promise limit a f s.Memory o o
+IsRun-nothing whole promise limit a f o u = record {
+  files = [];
+  got = tt;
+  taken = [];
+  more = unwrap_or f.left [];
+  took = IsTaken-untouched limit f u;
+  wrote = ([], nothing u, Appends-none o);
+}
+
+pub IsSession-nothing : (os : Presented → ℕ → List Proposal) (limit : ℕ) (a : Asked) (f : Fed)
+    (o : Option (List ℕ)) → IsUntouched f → IsSession os limit a f s.Memory o o
+IsSession-nothing os limit a f o u = of_words (command_of a.words)
+  where
+    of_command : (d : Command) → IsSessionOf os (Some d) limit a f s.Memory o o
+    of_command (run pres) = IsRun-nothing _ _ limit a f o u
+    of_command (run_table pres table) = IsRun-nothing _ _ limit a f o u
+    of_command (check pres) = IsRun-nothing _ _ limit a f o u
+    of_command (compile pres) = IsRun-nothing _ _ limit a f o u
+    of_command (trees pres name) = IsRun-nothing _ _ limit a f o u
+    of_command (collect pres) = IsRun-nothing _ _ limit a f o u
+    of_command (example kind size) = IsRun-nothing _ _ limit a f o u
+    of_command (load rows count seed) = IsRun-nothing _ _ limit a f o u
+
+    of_words : (d : Option Command) → IsSessionOf os d limit a f s.Memory o o
+    of_words None = IsRun-nothing _ _ limit a f o u
+    of_words (Some d) = of_command d
 
 -- how much is taken
 pub given-bound : (os : Presented → ℕ → List Proposal) (command : Option Command) (limit : ℕ)

@@ -4,10 +4,8 @@ ghost use Rattle.std.specs.Prelude.{◌≡◌, ◌⊎◌, IfOk, IfErr};
 ghost use Rattle.nil_io.specs.Causes.{Rose};
 ghost use Rattle.session_io.specs.Asked.{fed};
 ghost use Rattle.session_io.specs.Answers.{by_reply};
-ghost use Rattle.query_session.specs.Limits.{query_limit};
 ghost use Rattle.query_session.specs.Ends.{IsAnsweredAs, IsRefusedAs, RefusesWith};
 
-use super::limits::QUERY_LIMIT;
 use super::refusal::Refusal;
 use super::refusing::{refuse, status_of};
 use super::status::Status;
@@ -20,9 +18,10 @@ pub(crate) fn answer_by<T: Replier + Drop, S: Source, K: Sink>(
     alloc: Global,
     opened: Result<T, Refusal>,
     queries: &mut S,
+    limit: u64,
     out: &mut K,
 ) -> Status
-    ensures answered { IfOk opened (λ t. IsAnsweredAs (by_reply (T.reply t)) query_limit
+    ensures answered { IfOk opened (λ t. IsAnsweredAs (by_reply (T.reply t)) limit
         (fed (S.left queries.old) (S.left queries.new) (S.faults queries.old) (S.faults queries.new)
         (S.given queries.old) (S.given queries.new))
         result (K.written out.old) (K.written out.new)) }
@@ -34,9 +33,7 @@ pub(crate) fn answer_by<T: Replier + Drop, S: Source, K: Sink>(
         → RefusesWith opened Status.WriteFault ⊎ Rose (K.faults out.old) (K.faults out.new) }
 {
     match opened {
-        Ok(mut replier) => {
-            status_of(answer_source(alloc, &mut replier, queries, QUERY_LIMIT, out))
-        }
+        Ok(mut replier) => { status_of(answer_source(alloc, &mut replier, queries, limit, out)) }
         Err(refusal) => refuse(alloc, out, refusal),
     }
 }

@@ -4,7 +4,6 @@ ghost use Rattle.std.specs.Prelude.{◌≡◌, ◌≤◌, ℕ, List, Option, len
 ghost use Rattle.hall_compile.specs.Proposals.{proposal};
 ghost use Rattle.nil_io.specs.Causes.{Rose};
 ghost use Rattle.session_io.specs.Asked.{asked, fed};
-ghost use Rattle.query_session.specs.Limits.{query_limit};
 ghost use Rattle.query_session.specs.Opening.{HasOpened, HasRefusal};
 ghost use Rattle.query_session.specs.Compiling.{IsRefused};
 ghost use Rattle.query_session.specs.Check.{IsVerdict, IsCheckOf};
@@ -27,8 +26,8 @@ pub(crate) fn check<H: Shelf, K: Sink>(
     proposers: Vec<Box<dyn Proposer>>,
 ) -> Status
     requires few { length proposers.items ≤ 64 }
-    ensures run { (words : List (List ℕ)) (left : Option (List ℕ)) (faults given : ℕ) → IsCheckOf
-        (λ p i. map (λ b. proposal (named b) (gives b p i)) proposers.items) pres.now query_limit
+    ensures run { (limit : ℕ) (words : List (List ℕ)) (left : Option (List ℕ)) (faults given : ℕ) → IsCheckOf
+        (λ p i. map (λ b. proposal (named b) (gives b p i)) proposers.items) pres.now limit
         (asked words (H.contents shelf.old)
         (H.faults shelf.old) (H.faults shelf.new) (H.longs shelf.old) (H.longs shelf.new))
         (fed left left faults faults given given)

@@ -4,7 +4,6 @@ ghost use Rattle.std.specs.Prelude.{◌≡◌, ℕ, List, IfOk, IfErr};
 ghost use Rattle.nil_pres.specs.Presented.{Presented};
 ghost use Rattle.nil_io.specs.Causes.{Rose};
 ghost use Rattle.session_io.specs.Asked.{asked, fed};
-ghost use Rattle.query_session.specs.Limits.{query_limit};
 ghost use Rattle.query_session.specs.Opening.{HasOpened, HasRefusal};
 ghost use Rattle.query_session.specs.Presentations.{IsFileRefused};
 ghost use Rattle.query_session.specs.Collect.{IsPresentation, IsCollectOf};
@@ -24,9 +23,10 @@ pub(crate) fn collect<H: Shelf, S: Source, K: Sink>(
     pres: &str,
     shelf: &mut H,
     queries: &mut S,
+    limit: u64,
     out: &mut K,
 ) -> Status
-    ensures run { (words : List (List ℕ)) → IsCollectOf pres.now query_limit
+    ensures run { (words : List (List ℕ)) → IsCollectOf pres.now limit
         (asked words (H.contents shelf.old)
         (H.faults shelf.old) (H.faults shelf.new) (H.longs shelf.old) (H.longs shelf.new))
         (fed (S.left queries.old) (S.left queries.new) (S.faults queries.old) (S.faults queries.new)
@@ -36,7 +36,7 @@ pub(crate) fn collect<H: Shelf, S: Source, K: Sink>(
 {
     collected_replies();
     let opened = open(alloc, pres, shelf);
-    answer_by(alloc, opened, queries, out)
+    answer_by(alloc, opened, queries, limit, out)
 }
 
 /// The collector of a presentation, or what refuses it.

@@ -8,7 +8,6 @@ ghost use Rattle.table_json.specs.Saying.{IsTableText};
 ghost use Rattle.nil_io.specs.Causes.{Rose};
 ghost use Rattle.session_io.specs.Asked.{asked, fed};
 ghost use Rattle.session_io.specs.Lines.{as_line};
-ghost use Rattle.query_session.specs.Limits.{query_limit};
 ghost use Rattle.query_session.specs.Opening.{HasOpened, HasRefusal};
 ghost use Rattle.query_session.specs.Compiling.{IsRefused};
 ghost use Rattle.query_session.specs.Compile.{IsTableOf, IsCompileOf};
@@ -32,8 +31,8 @@ pub(crate) fn compile<H: Shelf, K: Sink>(
     proposers: Vec<Box<dyn Proposer>>,
 ) -> Status
     requires few { length proposers.items ≤ 64 }
-    ensures run { (words : List (List ℕ)) (left : Option (List ℕ)) (faults given : ℕ) → IsCompileOf
-        (λ p i. map (λ b. proposal (named b) (gives b p i)) proposers.items) pres.now query_limit
+    ensures run { (limit : ℕ) (words : List (List ℕ)) (left : Option (List ℕ)) (faults given : ℕ) → IsCompileOf
+        (λ p i. map (λ b. proposal (named b) (gives b p i)) proposers.items) pres.now limit
         (asked words (H.contents shelf.old)
         (H.faults shelf.old) (H.faults shelf.new) (H.longs shelf.old) (H.longs shelf.new))
         (fed left left faults faults given given)

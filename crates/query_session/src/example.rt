@@ -3,7 +3,6 @@
 ghost use Rattle.std.specs.Prelude.{◌≡◌, ℕ, List, Option, string_bytes, IfOk, IfErr, IfSome, IfNone, IsErrOf, IsOkUnless};
 ghost use Rattle.nil_io.specs.Causes.{Rose};
 ghost use Rattle.session_io.specs.Asked.{Asked, fed};
-ghost use Rattle.query_session.specs.Limits.{query_limit};
 ghost use Rattle.query_session.specs.Opening.{HasOpened, HasRefusal};
 ghost use Rattle.query_session.specs.Sizes.{IsSizeRefused};
 ghost use Rattle.query_session.specs.Example.{fault_of, example_of, IsExample, IsExampleOf};
@@ -19,8 +18,8 @@ use std::alloc::Global;
 
 /// Writes the presentation of an example.
 pub(crate) fn example<K: Sink>(alloc: Global, kind: ExampleKind, size: u64, out: &mut K) -> Status
-    ensures run { (a : Asked) (left : Option (List ℕ)) (faults given : ℕ)
-        → IsExampleOf kind size query_limit a (fed left left faults faults given given)
+    ensures run { (limit : ℕ) (a : Asked) (left : Option (List ℕ)) (faults given : ℕ)
+        → IsExampleOf kind size limit a (fed left left faults faults given given)
         result (K.written out.old) (K.written out.new) }
     ensures cause { result ≡ Status.WriteFault → Rose (K.faults out.old) (K.faults out.new) }
 {

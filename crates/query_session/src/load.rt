@@ -13,7 +13,6 @@ ghost use Rattle.load_tally.specs.Tallies.{IsTally, tally_text};
 ghost use Rattle.nil_io.specs.Causes.{Rose};
 ghost use Rattle.session_io.specs.Asked.{Asked, fed};
 ghost use Rattle.session_io.specs.Lines.{as_line, whole_lines};
-ghost use Rattle.query_session.specs.Limits.{query_limit};
 ghost use Rattle.query_session.specs.Opening.{HasOpened, HasRefusal};
 ghost use Rattle.query_session.specs.Refusals.{Says};
 ghost use Rattle.query_session.specs.Compiling.{IsCompiledBy, IsUncompiled};
@@ -43,9 +42,9 @@ pub(crate) fn load<K: Sink>(
     proposers: Vec<Box<dyn Proposer>>,
 ) -> Status
     requires few { length proposers.items ≤ 64 }
-    ensures run { (a : Asked) (left : Option (List ℕ)) (faults given : ℕ) → IsLoadOf
+    ensures run { (limit : ℕ) (a : Asked) (left : Option (List ℕ)) (faults given : ℕ) → IsLoadOf
         (λ p i. map (λ b. proposal (named b) (gives b p i)) proposers.items) rows count seed
-        query_limit a (fed left left faults faults given given)
+        limit a (fed left left faults faults given given)
         result (K.written out.old) (K.written out.new) }
     ensures cause { result ≡ Status.WriteFault → Rose (K.faults out.old) (K.faults out.new) }
 {

@@ -1,20 +1,20 @@
 //! The command `run PRES TABLE`.
 
-ghost use Rattle.std.specs.Prelude.{◌≡◌, ◌⊎◌, ℕ, List, IfOk, IfErr};
+ghost use Rattle.std.specs.Prelude.{◌≡◌, ◌⊎◌, ℕ, List, [], IfOk, IfErr};
 ghost use Rattle.nil_word.specs.Congruence.{IsConsistent};
 ghost use Rattle.nil_pres.specs.Relations.{relations_of};
 ghost use Rattle.hall_table.specs.Multiplies.{Paired};
 ghost use Rattle.nil_io.specs.Causes.{Rose};
 ghost use Rattle.session_io.specs.Asked.{asked, fed};
-ghost use Rattle.query_session.specs.Limits.{query_limit};
 ghost use Rattle.query_session.specs.Opening.{HasOpened, HasRefused, HasRefusal};
+ghost use Rattle.query_session.specs.Memos.{IsMemoOver};
 ghost use Rattle.query_session.specs.RunTable.{IsAccepted, IsOpened, IsRefused, IsRunTableOf, IsTableRefused};
 
-use super::answering::answer_by;
 use super::laws::consistent;
 use super::limits::TABLE_LIMIT;
 use super::presentations::read_presentation;
 use super::refusal::Refusal;
+use super::remembering::answer_from_memo;
 use super::status::Status;
 use super::table_refusal::TableRefusal;
 use identity_check::{Verdict, check};
@@ -22,6 +22,7 @@ use nil_io::{Shelf, Sink, Source};
 use nil_pres::Presentation;
 use query_replies::Calculator;
 use query_replies::laws::right_replies;
+use reply_memo::Answers;
 use std::alloc::Global;
 use table_json::read_table;
 
@@ -32,19 +33,27 @@ pub(crate) fn run_table<H: Shelf, S: Source, K: Sink>(
     table: &str,
     shelf: &mut H,
     queries: &mut S,
+    limit: u64,
+    memo: &mut Answers,
     out: &mut K,
 ) -> Status
-    ensures run { (words : List (List ℕ)) → IsRunTableOf pres.now table.now query_limit
+    requires empty { memo.old ≡ [] }
+    ensures run { (words : List (List ℕ)) → IsRunTableOf pres.now table.now limit
         (asked words (H.contents shelf.old)
         (H.faults shelf.old) (H.faults shelf.new) (H.longs shelf.old) (H.longs shelf.new))
         (fed (S.left queries.old) (S.left queries.new) (S.faults queries.old) (S.faults queries.new)
         (S.given queries.old) (S.given queries.new))
         result (K.written out.old) (K.written out.new) }
+    ensures memo { (words : List (List ℕ)) → IsMemoOver (IsOpened pres.now table.now)
+        limit (asked words (H.contents shelf.old)
+        (H.faults shelf.old) (H.faults shelf.new) (H.longs shelf.old) (H.longs shelf.new))
+        (fed (S.left queries.old) (S.left queries.new) (S.faults queries.old) (S.faults queries.new)
+        (S.given queries.old) (S.given queries.new)) memo.new }
     ensures cause { result ≡ Status.WriteFault → Rose (K.faults out.old) (K.faults out.new) }
 {
     right_replies();
     let opened = open(alloc, pres, table, shelf);
-    answer_by(alloc, opened, queries, out)
+    answer_from_memo(alloc, opened, queries, limit, memo, out)
 }
 
 /// The calculator of a presentation and a table, or what refuses them.

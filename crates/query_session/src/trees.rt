@@ -5,7 +5,6 @@ ghost use Rattle.hall_compile.specs.declared.wide_place.WidePlace.TheVariants as
 ghost use Rattle.tree_text.specs.Lines.{PolyOverflows, IsTreesText};
 ghost use Rattle.nil_io.specs.Causes.{Rose};
 ghost use Rattle.session_io.specs.Asked.{asked, fed};
-ghost use Rattle.query_session.specs.Limits.{query_limit};
 ghost use Rattle.query_session.specs.Opening.{HasOpened, HasRefusal};
 ghost use Rattle.query_session.specs.Refusals.{Says};
 ghost use Rattle.query_session.specs.Trees.{number_in, AreTrees, IsRefused, IsTreesOf};
@@ -30,8 +29,8 @@ pub(crate) fn trees<H: Shelf, K: Sink>(
     shelf: &mut H,
     out: &mut K,
 ) -> Status
-    ensures run { (words : List (List ℕ)) (left : Option (List ℕ)) (faults given : ℕ)
-        → IsTreesOf pres.now name.now query_limit
+    ensures run { (limit : ℕ) (words : List (List ℕ)) (left : Option (List ℕ)) (faults given : ℕ)
+        → IsTreesOf pres.now name.now limit
         (asked words (H.contents shelf.old)
         (H.faults shelf.old) (H.faults shelf.new) (H.longs shelf.old) (H.longs shelf.new))
         (fed left left faults faults given given)

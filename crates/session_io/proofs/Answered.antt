@@ -1,5 +1,5 @@
 -- As far as the lines are answered.
---   HasAnswered reply bytes rest old new   the lines before the rest were answered
+--   HasAnswered reply P bytes rest old new   the lines before the rest were answered, and meet P
 use Rattle.std.proofs.Common.{◌≡◌, ℕ, List, [], ◌∷◌, ◌++◌, Option, inl, refl, sym, ◌∙◌, ap, subst, append_assoc, append-nil}
 use Rattle.std.specs.Io.KnownBytes.{Appends}
 use Rattle.session_io.specs.declared.end.End.{End}
@@ -26,24 +26,32 @@ replies_by-one reply ls l =
     replies_by-append reply ls (l ∷ [])
     ∙ ap (λ (t : List ℕ). replies_by reply ls ++ t) (append-nil (reply l))
 
-pub record HasAnswered (reply : List ℕ → List ℕ) (bytes rest : List ℕ) (old new : Option (List ℕ))
-    : Type 0 where
+pub record HasAnswered (reply : List ℕ → List ℕ) (P : List (List ℕ) → Type 0) (bytes rest : List ℕ)
+    (old new : Option (List ℕ)) : Type 0 where
   pub lines : List (List ℕ)
   pub split : lines_of bytes ≡ lines ++ lines_of rest
   pub written : Appends old new (replies_by reply lines)
   pub at_line : EndsAtLine (replies_by reply lines)
+  pub meet : P lines
 
-pub HasAnswered-none : (reply : List ℕ → List ℕ) (bytes : List ℕ) (o : Option (List ℕ))
-    → HasAnswered reply bytes bytes o o
-HasAnswered-none reply bytes o =
-    record { lines = []; split = refl; written = Appends-none o; at_line = inl refl }
+pub HasAnswered-none : (reply : List ℕ → List ℕ) (P : List (List ℕ) → Type 0) (bytes : List ℕ)
+    (o : Option (List ℕ)) → P [] → HasAnswered reply P bytes bytes o o
+HasAnswered-none reply P bytes o none =
+    record { lines = []; split = refl; written = Appends-none o; at_line = inl refl; meet = none }
 
-module _ (reply : List ℕ → List ℕ) (bytes rest : List ℕ) (o q : Option (List ℕ))
-    (h : HasAnswered reply bytes rest o q) where
+module _ (reply : List ℕ → List ℕ) (P : List (List ℕ) → Type 0) (bytes rest : List ℕ)
+    (o q : Option (List ℕ)) (h : HasAnswered reply P bytes rest o q) where
   module _ (line next : List ℕ) (e : lines_of rest ≡ line ∷ lines_of next) (r : Option (List ℕ)) where
-    pub HasAnswered-more : Appends q r (reply line) → EndsAtLine (reply line)
-        → HasAnswered reply bytes next o r
-    HasAnswered-more w m =
+    whole_lines-more : whole_lines bytes ≡ h.lines ++ line ∷ whole_lines next
+    whole_lines-more =
+        whole_lines-append bytes rest h.lines h.split
+        ∙ ap (λ (ls : List (List ℕ)). h.lines ++ ls) (whole_lines-first rest line next e)
+
+    pub HasAnswered-more : (Q : List (List ℕ) → Type 0)
+        → ((lines : List (List ℕ)) → P lines → Q (lines ++ line ∷ []))
+        → Appends q r (reply line) → EndsAtLine (reply line)
+        → HasAnswered reply Q bytes next o r
+    HasAnswered-more Q one w m =
         let both : replies_by reply (h.lines ++ line ∷ []) ≡ replies_by reply h.lines ++ reply line =
         replies_by-one reply h.lines line in
         record {
@@ -56,19 +64,27 @@ module _ (reply : List ℕ → List ℕ) (bytes rest : List ℕ) (o q : Option (
           at_line =
               subst EndsAtLine (sym both)
               (EndsAtLine-append (replies_by reply h.lines) (reply line) h.at_line m);
+          meet = one h.lines h.meet;
         }
 
     pub HasAnswered-stop : (stop : Stop) → IsStopped (reply line) q r stop
         → IsStopped (replies_by reply (whole_lines bytes)) o r stop
     HasAnswered-stop stop s =
-        let whole : whole_lines bytes ≡ h.lines ++ line ∷ whole_lines next =
-        whole_lines-append bytes rest h.lines h.split
-        ∙ ap (λ (ls : List (List ℕ)). h.lines ++ ls) (whole_lines-first rest line next e) in
         subst (λ (t : List ℕ). IsStopped t o r stop)
-        (sym (ap (replies_by reply) whole ∙ replies_by-append reply h.lines (line ∷ whole_lines next)))
+        (sym (ap (replies_by reply) whole_lines-more ∙ replies_by-append reply h.lines (line ∷ whole_lines next)))
         (IsStopped-behind (replies_by reply h.lines)
         (reply line ++ replies_by reply (whole_lines next)) o q r stop h.written h.at_line
         (IsStopped-front (reply line) (replies_by reply (whole_lines next)) q r stop s))
+
+    -- what holds of the lines up to a stop holds of all where it holds of more
+    pub HasAnswered-wider : (Q : List (List ℕ) → Type 0)
+        → ((lines : List (List ℕ)) → P lines → Q (lines ++ line ∷ []))
+        → ((lines more : List (List ℕ)) → Q lines → Q (lines ++ more))
+        → Q (whole_lines bytes)
+    HasAnswered-wider Q one wider =
+        subst Q
+        (append_assoc h.lines (line ∷ []) (whole_lines next) ∙ sym whole_lines-more)
+        (wider (h.lines ++ line ∷ []) (whole_lines next) (one h.lines h.meet))
 
   module _ (line : List ℕ) (e : lines_of rest ≡ line ∷ []) where
     whole_lines-done : whole_lines bytes ≡ h.lines
@@ -85,6 +101,9 @@ module _ (reply : List ℕ → List ℕ) (bytes rest : List ℕ) (o q : Option (
     HasAnswered-at_line =
         subst (λ (ls : List (List ℕ)). EndsAtLine (replies_by reply ls)) (sym whole_lines-done)
         h.at_line
+
+    pub HasAnswered-meet : P (whole_lines bytes)
+    HasAnswered-meet = subst P (sym whole_lines-done) h.meet
 
     pub HasAnswered-rest : lines_of bytes ≡ whole_lines bytes ++ line ∷ []
     HasAnswered-rest =

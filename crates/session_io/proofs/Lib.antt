@@ -7,4 +7,5 @@ pub mod Answered
 pub mod PieceByPiece
 pub mod Promising
 pub mod ReadSoFar
+pub mod Recalled
 pub mod Weakening

@@ -6,4 +6,5 @@ pub mod Taking
 pub mod Answers
 pub mod Holding
 pub mod Reading
+pub mod Recalling
 pub mod Stops

@@ -1,11 +1,12 @@
 //! Lines to replies.
 
-ghost use Rattle.std.specs.Prelude.{◌≡◌, ℕ, ◌≤◌, List, ◌++◌, OnOk, IfErr, IsErrOf};
+ghost use Rattle.std.specs.Prelude.{◌≡◌, ℕ, ◌≤◌, List, [], ◌∷◌, ◌++◌, OnOk, IfErr, IsErrOf};
 ghost use Rattle.std.specs.Io.KnownBytes.{Appends};
 ghost use Rattle.nil_io.specs.Causes.{Rose};
 ghost use Rattle.session_io.specs.Answers.{replies_by, last_piece};
 ghost use Rattle.session_io.specs.Holding.{held, IsHeld, AreAnswered};
 ghost use Rattle.session_io.specs.Lines.{whole_lines, EndsAtLine};
+ghost use Rattle.session_io.specs.Recalling.{last_line};
 ghost use Rattle.session_io.specs.Stops.{IsStopped};
 
 use super::end::End;
@@ -32,6 +33,9 @@ pub(crate) fn answer_piece<T: Replier, K: Sink>(
         (replies_by (T.reply replier.old) (whole_lines (begun ++ piece.now)))
         (K.written out.old) (K.written out.new)) }
     ensures same { T.reply replier.new ≡ T.reply replier.old }
+    ensures recalls { (begun : List ℕ) (lines : List (List ℕ)) → IsHeld begun line.old
+        → T.recalls replier.old lines
+        → T.recalls replier.new (lines ++ whole_lines (begun ++ piece.now)) }
     ensures later { K.faults out.old ≤ K.faults out.new }
     ensures cause { IsErrOf result Stop.Failed → Rose (K.faults out.old) (K.faults out.new) }
 {
@@ -62,6 +66,9 @@ pub(crate) fn answer_last<T: Replier, K: Sink>(
         (K.written out.old) (K.written out.new) (last_piece (T.reply replier.old) line end)) }
     ensures err { (line : List ℕ) → rest.now ≡ held line → IfErr result (IsStopped
         (last_piece (T.reply replier.old) line end) (K.written out.old) (K.written out.new)) }
+    ensures recalls { (line : List ℕ) (lines : List (List ℕ)) → rest.now ≡ held line
+        → T.recalls replier.old lines → T.recalls replier.new (lines ++ last_line line end) }
+    ensures same { T.reply replier.new ≡ T.reply replier.old }
     ensures later { K.faults out.old ≤ K.faults out.new }
     ensures cause { IsErrOf result Stop.Failed → Rose (K.faults out.old) (K.faults out.new) }
 {
@@ -85,6 +92,8 @@ fn answer_line<T: Replier, K: Sink>(
     ensures err { IfErr result (IsStopped (T.reply replier.old line.now)
         (K.written out.old) (K.written out.new)) }
     ensures same { T.reply replier.new ≡ T.reply replier.old }
+    ensures recalls { (lines : List (List ℕ)) (whole : List ℕ) → line.now ≡ held whole
+        → T.recalls replier.old lines → T.recalls replier.new (lines ++ whole ∷ []) }
     ensures later { K.faults out.old ≤ K.faults out.new }
     ensures cause { IsErrOf result Stop.Failed → Rose (K.faults out.old) (K.faults out.new) }
 {

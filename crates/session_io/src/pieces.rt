@@ -5,6 +5,7 @@ ghost use Rattle.nil_io.specs.Causes.{Rose};
 ghost use Rattle.session_io.specs.Asked.{fed};
 ghost use Rattle.session_io.specs.Answers.{by_reply, IsAnswered};
 ghost use Rattle.session_io.specs.Reading.{IsRead};
+ghost use Rattle.session_io.specs.Recalling.{IsRecalled};
 
 use super::answering::answer_piece;
 use super::end::End;
@@ -28,7 +29,8 @@ pub(crate) fn answer_pieces<T: Replier, S: Source, K: Sink>(
     out: &mut K,
 ) -> Result<End, Stop>
     requires { line.old ≡ [] }
-    ensures ok { IfOk result (IsRead (T.reply replier.old) limit
+    ensures ok { IfOk result (IsRead (T.reply replier.old)
+        (λ lines. T.recalls replier.old [] → T.recalls replier.new lines) limit
         (fed (S.left queries.old) (S.left queries.new) (S.faults queries.old) (S.faults queries.new)
         (S.given queries.old) (S.given queries.new))
         line.new (K.written out.old) (K.written out.new)) }
@@ -36,6 +38,10 @@ pub(crate) fn answer_pieces<T: Replier, S: Source, K: Sink>(
         (fed (S.left queries.old) (S.left queries.new) (S.faults queries.old) (S.faults queries.new)
         (S.given queries.old) (S.given queries.new))
         (Err stop) (K.written out.old) (K.written out.new)) }
+    ensures recalls { T.recalls replier.old [] → IfErr result (λ _. IsRecalled
+        (T.recalls replier.new) limit
+        (fed (S.left queries.old) (S.left queries.new) (S.faults queries.old) (S.faults queries.new)
+        (S.given queries.old) (S.given queries.new))) }
     ensures same { T.reply replier.new ≡ T.reply replier.old }
     ensures later { K.faults out.old ≤ K.faults out.new }
     ensures cause { IsErrOf result Stop.Failed → Rose (K.faults out.old) (K.faults out.new) }

@@ -1,9 +1,10 @@
 //! The lines of a source.
 
-ghost use Rattle.std.specs.Prelude.{◌≡◌, ℕ, IsErrOf};
+ghost use Rattle.std.specs.Prelude.{◌≡◌, ℕ, [], IsErrOf};
 ghost use Rattle.nil_io.specs.Causes.{Rose};
 ghost use Rattle.session_io.specs.Asked.{fed};
 ghost use Rattle.session_io.specs.Answers.{by_reply, IsAnswered};
+ghost use Rattle.session_io.specs.Recalling.{IsRecalled};
 
 use super::answering::answer_last;
 use super::end::End;
@@ -27,6 +28,10 @@ pub fn answer_source<T: Replier, S: Source, K: Sink>(
         (fed (S.left queries.old) (S.left queries.new) (S.faults queries.old) (S.faults queries.new)
         (S.given queries.old) (S.given queries.new))
         result (K.written out.old) (K.written out.new) }
+    ensures recalls { T.recalls replier.old [] → IsRecalled (T.recalls replier.new) limit
+        (fed (S.left queries.old) (S.left queries.new) (S.faults queries.old) (S.faults queries.new)
+        (S.given queries.old) (S.given queries.new)) }
+    ensures same { T.reply replier.new ≡ T.reply replier.old }
     ensures cause { IsErrOf result Stop.Failed → Rose (K.faults out.old) (K.faults out.new) }
 {
     let mut line = HeldLine::reserve(alloc)?;

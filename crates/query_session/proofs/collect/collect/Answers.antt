@@ -4,7 +4,6 @@ use Rattle.collect_text.specs.Replies.{reply}
 use Rattle.collect_text.specs.Right.{IsCollected}
 use Rattle.query_session.specs.Presentations.{IsFileRefused}
 use Rattle.query_session.specs.Collect.{IsPresentation}
-use Rattle.query_session.specs.Limits.{query_limit}
 use Rattle.query_session.proofs.Plain.{file_plain}
 use Rattle.query_session.proofs.Sessions.{IsRunOver-result, write_fault-result}
 use Rattle.query_session.proofs.collect.collect.Goals as goal
@@ -13,7 +12,7 @@ pub returns-clause-run : goal.returns-clause-run
 returns-clause-run g c =
     λ words.
     IsRunOver-result Presented (IsPresentation c.args.pres.now) IsCollected
-    (IsFileRefused c.args.pres.now) query_limit _ _ _ _ (file_plain c.args.pres.now _) reply
+    (IsFileRefused c.args.pres.now) c.args.limit _ _ _ _ (file_plain c.args.pres.now _) reply
     (λ p h line. c.collected_replies.ensures p line h.is.is_file.lawful)
     _ c.open-opened.result (c.open-opened.ensures.opened words) (c.open-opened.ensures.refused words)
     c.answer_by.ensures.answered c.answer_by.ensures.refused

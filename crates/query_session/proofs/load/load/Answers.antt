@@ -1,6 +1,5 @@
 use Rattle.std.proofs.Common.{[], None, refl}
 use Rattle.session_io.specs.Asked.{Asked, asked}
-use Rattle.query_session.specs.Limits.{query_limit}
 use Rattle.query_session.specs.Load.{IsLoaded, IsRefused}
 use Rattle.query_session.proofs.LoadOpened.{load_plain}
 use Rattle.query_session.proofs.Sessions.{write_fault-result}
@@ -9,9 +8,9 @@ use Rattle.query_session.proofs.load.load.Goals as goal
 
 pub returns-clause-run : goal.returns-clause-run
 returns-clause-run g c =
-    λ a left faults given.
+    λ limit a left faults given.
     IsTextRun-result (IsLoaded _ c.args.rows c.args.count c.args.seed)
-    (IsRefused _ c.args.rows c.args.count c.args.seed) query_limit a _ _ _
+    (IsRefused _ c.args.rows c.args.count c.args.seed) limit a _ _ _
     (load_plain _ c.args.rows c.args.count c.args.seed a) _ c.text_of-text.result
     (c.text_of-text.ensures.opened a) (c.text_of-text.ensures.refused a)
     (record { left = refl; faults = refl; given = refl }) c.write_by.ensures.written

@@ -1,5 +1,4 @@
 use Rattle.std.proofs.Common.{[], refl}
-use Rattle.query_session.specs.Limits.{query_limit}
 use Rattle.query_session.specs.Trees.{AreTrees, IsRefused}
 use Rattle.query_session.proofs.TreesOpened.{trees_plain}
 use Rattle.query_session.proofs.Sessions.{write_fault-result}
@@ -8,9 +7,9 @@ use Rattle.query_session.proofs.trees.trees.Goals as goal
 
 pub returns-clause-run : goal.returns-clause-run
 returns-clause-run g c =
-    λ words left faults given.
+    λ limit words left faults given.
     IsTextRun-result (AreTrees c.args.pres.now c.args.name.now)
-    (IsRefused c.args.pres.now c.args.name.now) query_limit _ _ _ _
+    (IsRefused c.args.pres.now c.args.name.now) limit _ _ _ _
     (trees_plain c.args.pres.now c.args.name.now _) _ c.text_of-text.result
     (c.text_of-text.ensures.opened words) (c.text_of-text.ensures.refused words)
     (record { left = refl; faults = refl; given = refl }) c.write_by.ensures.written

@@ -6,7 +6,9 @@ use Rattle.session_io.proofs.answering.answer_piece.Given as goal
 abbrev pub invariant-answering : goal.invariant-answering
 invariant-answering g l = record {
   within : (begun : List ℕ) → IsHeld begun l.initial.line
-      → IsWithin (g.T.Replier.reply l.initial.replier) (begun ++ l.piece) l.rest l.line
+      → IsWithin (g.T.Replier.reply l.initial.replier)
+      (λ done. (lines : List (List ℕ)) → g.T.Replier.recalls l.initial.replier lines
+      → g.T.Replier.recalls l.replier (lines ++ done)) (begun ++ l.piece) l.rest l.line
       (g.K.Sink.written l.initial.out) (g.K.Sink.written l.out);
   later : g.K.Sink.faults l.initial.out ≤ g.K.Sink.faults l.out;
   same : g.T.Replier.reply l.replier ≡ g.T.Replier.reply l.initial.replier;
