@@ -1,5 +1,6 @@
 pub mod Replies
 pub mod LongLines
 pub mod Right
+pub mod EqualReplies
 pub mod Memoized
 pub mod MoreLines

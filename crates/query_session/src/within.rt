@@ -1,20 +1,13 @@
 //! The top call within a limit of query bytes, with a lent memo.
 
-ghost use Rattle.std.specs.Prelude.{◌≡◌, ◌⊎◌, ◌↔◌, ◌+◌, ◌≤◌, ℕ, List, [], length, map};
-ghost use Rattle.nil_word.specs.declared.expr.Expr.{Expr};
-ghost use Rattle.nil_word.specs.declared.query.Query.TheVariants as query;
-ghost use Rattle.nil_word.specs.Congruence.{Congruent};
-ghost use Rattle.nil_word.specs.Expressions.{unrolled};
+ghost use Rattle.std.specs.Prelude.{◌≡◌, ◌⊎◌, ◌+◌, ◌≤◌, ℕ, List, [], length, map};
 ghost use Rattle.nil_pres.specs.Presented.{Presented};
-ghost use Rattle.nil_pres.specs.Relations.{relations_of};
-ghost use Rattle.hall_table.specs.Multiplies.{Paired};
-ghost use Rattle.group_eval.specs.Queries.{IsWide};
 ghost use Rattle.hall_compile.specs.Proposals.{proposal};
 ghost use Rattle.nil_io.specs.Causes.{Rose};
 ghost use Rattle.session_io.specs.Asked.{texts, asked, fed};
 ghost use Rattle.session_io.specs.Taking.{piece};
 ghost use Rattle.query_session.specs.Limits.{query_limit};
-ghost use Rattle.query_replies.specs.Right.{IsQuery, IsReply};
+ghost use Rattle.query_replies.specs.EqualReplies.{EqualRepliesMeanEqualWords};
 ghost use Rattle.query_session.specs.Commands.{IsSession};
 ghost use Rattle.query_session.specs.Memos.{IsMemoAfter};
 ghost use Rattle.query_session.specs.Smooth.{IsSmooth};
@@ -65,12 +58,7 @@ pub fn session_within<H: Shelf, S: Source, K: Sink>(
         result (K.written out.old) (K.written out.new) }
     // Two lines that ask for elements, neither of them wide, get equal replies exactly if the
     // relations make their words equal.
-    ensures equal { (c : Paired) (line line' text text' : List ℕ) (e e' : Expr)
-        → IsQuery c.pres line (query.Value e) → (IsWide c.table (query.Value e) → ⊥)
-        → IsReply c line text
-        → IsQuery c.pres line' (query.Value e') → (IsWide c.table (query.Value e') → ⊥)
-        → IsReply c line' text'
-        → (text ≡ text') ↔ Congruent (relations_of c.pres) 1 (unrolled e) (unrolled e') }
+    ensures equal { EqualRepliesMeanEqualWords }
     // With known files and known queries within their limits, which nothing refuses, a presentation
     // that compiles, and no fault, the session ends well.
     ensures complete { (p : Presented)

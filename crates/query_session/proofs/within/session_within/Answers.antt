@@ -44,10 +44,12 @@ returns-in-Some-RunTable-clause-bound g c =
 
 pub returns-in-Some-Check-clause-run : goal.returns-in-Some-Check-clause-run
 returns-in-Some-Check-clause-run g c =
-    let q = c.args.queries.now in
     let asks = rw c.in-Some-Check.field-0-is at c.in-Some-Check.ensures in
-    IsSession-of _ c.args.limit _ _ c.check.result _ _ (Some (check c.in-Some-Check.pres.now)) asks
-    (c.check.ensures.run c.args.limit (texts c.args.words.now.items) (g.S.Source.left q) (g.S.Source.faults q) (g.S.Source.given q))
+    let q = c.args.queries.now in
+    IsSession-of _ c.args.limit _ _ c.check.result _ _
+    (Some (check c.in-Some-Check.pres.now)) asks
+    (c.check.ensures.run c.args.limit (texts c.args.words.now.items) (g.S.Source.left q)
+    (g.S.Source.faults q) (g.S.Source.given q))
 
 pub returns-in-Some-Check-clause-complete : goal.returns-in-Some-Check-clause-complete
 returns-in-Some-Check-clause-complete g c = λ p smooth none.
@@ -57,10 +59,12 @@ returns-in-Some-Check-clause-complete g c = λ p smooth none.
 
 pub returns-in-Some-Compile-clause-run : goal.returns-in-Some-Compile-clause-run
 returns-in-Some-Compile-clause-run g c =
-    let q = c.args.queries.now in
     let asks = rw c.in-Some-Compile.field-0-is at c.in-Some-Compile.ensures in
-    IsSession-of _ c.args.limit _ _ c.compile.result _ _ (Some (compile c.in-Some-Compile.pres.now)) asks
-    (c.compile.ensures.run c.args.limit (texts c.args.words.now.items) (g.S.Source.left q) (g.S.Source.faults q) (g.S.Source.given q))
+    let q = c.args.queries.now in
+    IsSession-of _ c.args.limit _ _ c.compile.result _ _
+    (Some (compile c.in-Some-Compile.pres.now)) asks
+    (c.compile.ensures.run c.args.limit (texts c.args.words.now.items) (g.S.Source.left q)
+    (g.S.Source.faults q) (g.S.Source.given q))
 
 pub returns-in-Some-Compile-clause-complete : goal.returns-in-Some-Compile-clause-complete
 returns-in-Some-Compile-clause-complete g c = λ p smooth none.
@@ -70,19 +74,12 @@ returns-in-Some-Compile-clause-complete g c = λ p smooth none.
 
 pub returns-in-Some-Example-clause-run : goal.returns-in-Some-Example-clause-run
 returns-in-Some-Example-clause-run g c =
-    let s = c.args.shelf.now in
-    let q = c.args.queries.now in
-    let left = g.S.Source.left q in
-    let faults = g.S.Source.faults q in
-    let given = g.S.Source.given q in
-    let a =
-    asked (texts c.args.words.now.items) (g.H.Shelf.contents s) (g.H.Shelf.faults s)
-    (g.H.Shelf.faults s) (g.H.Shelf.longs s) (g.H.Shelf.longs s) in
     let asks = rw c.in-Some-Example.field-0-is at c.in-Some-Example.ensures in
-    IsSession-of _ c.args.limit a (fed left left faults faults given given) c.example.result
-    (g.K.Sink.written c.args.out.now) (g.K.Sink.written c.example.new.out)
+    let q = c.args.queries.now in
+    IsSession-of _ c.args.limit (asked (texts c.args.words.now.items) _ _ _ _ _) _ c.example.result _ _
     (Some (example c.in-Some-Example.kind c.in-Some-Example.size)) asks
-    (c.example.ensures.run c.args.limit a left faults given)
+    (c.example.ensures.run c.args.limit _ (g.S.Source.left q) (g.S.Source.faults q)
+    (g.S.Source.given q))
 
 pub returns-in-Some-Example-clause-complete : goal.returns-in-Some-Example-clause-complete
 returns-in-Some-Example-clause-complete g c = λ p smooth none.
@@ -92,11 +89,12 @@ returns-in-Some-Example-clause-complete g c = λ p smooth none.
 
 pub returns-in-Some-Trees-clause-run : goal.returns-in-Some-Trees-clause-run
 returns-in-Some-Trees-clause-run g c =
-    let q = c.args.queries.now in
     let asks = rw c.in-Some-Trees.field-0-is at c.in-Some-Trees.ensures in
+    let q = c.args.queries.now in
     IsSession-of _ c.args.limit _ _ c.trees.result _ _
     (Some (trees c.in-Some-Trees.pres.now c.in-Some-Trees.name.now)) asks
-    (c.trees.ensures.run c.args.limit (texts c.args.words.now.items) (g.S.Source.left q) (g.S.Source.faults q) (g.S.Source.given q))
+    (c.trees.ensures.run c.args.limit (texts c.args.words.now.items) (g.S.Source.left q)
+    (g.S.Source.faults q) (g.S.Source.given q))
 
 pub returns-in-Some-Trees-clause-complete : goal.returns-in-Some-Trees-clause-complete
 returns-in-Some-Trees-clause-complete g c = λ p smooth none.
@@ -107,8 +105,8 @@ returns-in-Some-Trees-clause-complete g c = λ p smooth none.
 pub returns-in-Some-Collect-clause-run : goal.returns-in-Some-Collect-clause-run
 returns-in-Some-Collect-clause-run g c =
     let asks = rw c.in-Some-Collect.field-0-is at c.in-Some-Collect.ensures in
-    IsSession-of _ c.args.limit _ _ c.collect.result _ _ (Some (collect c.in-Some-Collect.pres.now)) asks
-    (c.collect.ensures.run (texts c.args.words.now.items))
+    IsSession-of _ c.args.limit _ _ c.collect.result _ _ (Some (collect c.in-Some-Collect.pres.now))
+    asks (c.collect.ensures.run (texts c.args.words.now.items))
 
 pub returns-in-Some-Collect-clause-complete : goal.returns-in-Some-Collect-clause-complete
 returns-in-Some-Collect-clause-complete g c = λ p smooth none.
@@ -124,19 +122,12 @@ returns-in-Some-Collect-clause-bound g c =
 
 pub returns-in-Some-Load-clause-run : goal.returns-in-Some-Load-clause-run
 returns-in-Some-Load-clause-run g c =
-    let s = c.args.shelf.now in
-    let q = c.args.queries.now in
-    let left = g.S.Source.left q in
-    let faults = g.S.Source.faults q in
-    let given = g.S.Source.given q in
-    let a =
-    asked (texts c.args.words.now.items) (g.H.Shelf.contents s) (g.H.Shelf.faults s)
-    (g.H.Shelf.faults s) (g.H.Shelf.longs s) (g.H.Shelf.longs s) in
     let asks = rw c.in-Some-Load.field-0-is at c.in-Some-Load.ensures in
-    IsSession-of _ c.args.limit a (fed left left faults faults given given) c.load.result
-    (g.K.Sink.written c.args.out.now) (g.K.Sink.written c.load.new.out)
+    let q = c.args.queries.now in
+    IsSession-of _ c.args.limit (asked (texts c.args.words.now.items) _ _ _ _ _) _ c.load.result _ _
     (Some (load c.in-Some-Load.rows c.in-Some-Load.count c.in-Some-Load.seed)) asks
-    (c.load.ensures.run c.args.limit a left faults given)
+    (c.load.ensures.run c.args.limit _ (g.S.Source.left q) (g.S.Source.faults q)
+    (g.S.Source.given q))
 
 pub returns-in-Some-Load-clause-complete : goal.returns-in-Some-Load-clause-complete
 returns-in-Some-Load-clause-complete g c = λ p smooth none.
@@ -146,20 +137,14 @@ returns-in-Some-Load-clause-complete g c = λ p smooth none.
 
 pub returns-in-None-clause-run : goal.returns-in-None-clause-run
 returns-in-None-clause-run g c =
-    let s = c.args.shelf.now in
     let q = c.args.queries.now in
     let left = g.S.Source.left q in
     let faults = g.S.Source.faults q in
     let given = g.S.Source.given q in
-    IsSession-of _ c.args.limit
-    (asked (texts c.args.words.now.items) (g.H.Shelf.contents s) (g.H.Shelf.faults s)
-    (g.H.Shelf.faults s) (g.H.Shelf.longs s) (g.H.Shelf.longs s))
-    (fed left left faults faults given given) c.refuse.result
-    (g.K.Sink.written c.args.out.now) (g.K.Sink.written c.refuse.new.out) None c.in-None.ensures
-    (IsRun-usage c.args.limit
-    (asked (texts c.args.words.now.items) (g.H.Shelf.contents s) (g.H.Shelf.faults s)
-    (g.H.Shelf.faults s) (g.H.Shelf.longs s) (g.H.Shelf.longs s))
-    (fed left left faults faults given given) c.refuse.result
+    IsSession-of _ c.args.limit (asked (texts c.args.words.now.items) _ _ _ _ _)
+    (fed left left faults faults given given) c.refuse.result (g.K.Sink.written c.args.out.now)
+    (g.K.Sink.written c.refuse.new.out) None c.in-None.ensures
+    (IsRun-usage c.args.limit _ (fed left left faults faults given given) c.refuse.result
     (g.K.Sink.written c.args.out.now) (g.K.Sink.written c.refuse.new.out)
     (record { left = refl; faults = refl; given = refl }) (c.refuse.ensures.ended (λ h. cc)))
 
