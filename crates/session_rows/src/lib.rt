@@ -16,6 +16,8 @@ mod fixtures;
 #[cfg(test)]
 mod long;
 #[cfg(test)]
+mod memo;
+#[cfg(test)]
 mod own;
 #[cfg(test)]
 mod pieces;
