@@ -7,8 +7,8 @@ use reply_memo::Answers;
 use std::alloc::{AllocError, Global};
 use std::test::Fail;
 
-/// How a session over the Heisenberg group and these queries ends within a limit of their bytes, and
-/// the memo that it was lent.
+/// How a session over the Heisenberg group and these queries ends within a limit of their bytes,
+/// and the memo that it was lent.
 fn answered_within(
     alloc: Global,
     command: &str,
