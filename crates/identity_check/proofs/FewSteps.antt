@@ -27,7 +27,7 @@ use Rattle.identity_check.specs.Sides.{xs, other_ys, left_step, right_step, left
 use Rattle.identity_check.specs.Overflowing.{StepOverflows, StepSidesOverflow, MakingOverflows, SidesOverflow}
 use Rattle.identity_check.specs.Events.{Event, at_each, last_events, signed_events, step_events, relation_events, Stops}
 use Rattle.identity_check.specs.Events.Event.{makes, tries}
-use Rattle.identity_check.specs.Walked.{AreEnough}
+use Rattle.identity_check.specs.Drawing.{AreEnough}
 use Rattle.identity_check.specs.Few.{NoneStops, right_events, all_last_events, all_step_events, all_relation_events, AllStep}
 use Rattle.identity_check.proofs.Agreeing.{Bounds, bounds_of, IsOf, AgreeOn, point-x, point-y, at-values}
 use Rattle.identity_check.proofs.ByNumber.{IsUnit, unit_up, unit_down}

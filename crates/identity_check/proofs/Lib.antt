@@ -18,6 +18,7 @@ pub mod Putting
 pub mod MadeSteps
 pub mod Constants
 pub mod PairEntries
+pub mod Marks
 pub mod PutPairs
 pub mod Showing
 pub mod Apart

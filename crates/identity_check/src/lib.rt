@@ -3,6 +3,7 @@
 
 mod checking;
 mod comparing;
+mod drawing;
 mod failure;
 mod halt;
 mod identity;

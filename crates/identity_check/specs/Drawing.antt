@@ -4,6 +4,7 @@
 --   AreGenerators low n ms      each of the ms is from low to n
 --   IsMarked marks k            generator k is marked
 --   AreDrawn rels level ms marks    each that is marked is drawn from the generators ms
+--   KeepDrawn rels level marks more    where these marked are drawn, those of the next list are
 --   IsLeft right marks m        m is once in a right side, and each other generator there is marked
 -- rels a presentation · k m generators, ms a list of them · marks by generator · s syllable
 use Rattle.std.specs.Prelude.{◌≡◌, ◌≢◌, ◌⊎◌, ℕ, ◌≤◌, ℤ, pos, negsuc, Bool, false, List, All, Contains, IsTrue, slice_index_or}
@@ -24,6 +25,10 @@ IsMarked marks k = IsTrue (slice_index_or marks k false)
 
 abbrev pub AreDrawn : Relations → ℕ → List ℕ → List Bool → Type 0
 AreDrawn rels level ms marks = (m : ℕ) → IsMarked marks m → IsDrawn rels level (Contains ms) m
+
+abbrev pub KeepDrawn : Relations → ℕ → List Bool → List Bool → Type 0
+KeepDrawn rels level marks more =
+    (ms : List ℕ) → AreDrawn rels level ms marks → AreDrawn rels level ms more
 
 pub record IsLeft (right : List Syllable) (marks : List Bool) (m : ℕ) : Type 0 where
   pub once : (exponent_in m right ≡ pos 1) ⊎ (exponent_in m right ≡ negsuc 0)
