@@ -2,20 +2,24 @@
 -- table; and in a table the step identities hold.
 --   rels a presentation · t table · j < l and k m generators, ms a list of them · c 1 or -1 · a point
 --   x y vectors
-use Rattle.std.proofs.Common.{◌≡◌, ℕ, zero, suc, ◌+◌, ◌-◌, ◌<◌, ◌≤◌, true, false, List, [], ◌∷◌, ◌++◌, Contains, sym, ap, ◌∙◌, subst, arith, inl, inr}
+use Rattle.std.proofs.Common.{◌≡◌, ℕ, zero, suc, ◌+◌, ◌-◌, ◌<◌, ◌≤◌, true, false, List, [], ◌∷◌, ◌++◌, length, Contains, sym, ap, ◌∙◌, subst, arith, inl, inr}
 use Rattle.std.specs.Prelude.{All, unsigned_abs}
 use Rattle.std.specs.List.{flat_map}
 use Rattle.std.proofs.lemmas.List.Elements.{All-nil, All-append, All-contains}
 use lib.IntN.{ℤ, pos, negsuc}
 use Rattle.nil_word.specs.Words.{up, down, IsVector}
 use Rattle.nil_word.specs.Congruence.{Relations, IsAbove}
+use Rattle.nil_pres.specs.Presented.{Presented}
+use Rattle.nil_pres.specs.Relations.{relations_of}
 use Rattle.nil_word.specs.Exponents.{entry, numbers}
-use Rattle.hall_law.specs.Table.{zeros, added, single, exponents, from_entries, IsTable}
+use Rattle.hall_law.specs.Table.{zeros, added, single, exponents, from_entries, IsPresentation, IsTable}
 use Rattle.hall_law.specs.Nucleus.{IsCandidate, DoesStep, KeepsRelations}
 use Rattle.hall_law.proofs.Grading.{IsClosed-from_entries, entry-from_entries}
 use Rattle.hall_law.proofs.Drawing.{drawn_steps, steps_to_table}
+use Rattle.binom_poly.specs.declared.term.Term.{Term}
 use Rattle.binom_poly.specs.Variable.{y_of}
 use Rattle.binom_poly.proofs.Unique.{unique_form}
+use Rattle.poly_subst.specs.Family.{poly_from}
 use Rattle.poly_subst.specs.Walk.{NoneOverflows}
 use Rattle.hall_table.specs.Tabled.{Tabled, IsTabled, last_of, poly_at}
 use Rattle.hall_table.specs.Values.{point_of, values}
@@ -218,7 +222,7 @@ steps_follow rels t h e n m =
     (downs_follow rels t j b (steps_alike t j (negsuc 0) h o unit_down
     (n (other_ys t j) (y_of j) (negsuc 0) unit_down.small) s.1)))
 
--- ---- what was walked
+-- ---- what was tried
 few_hold : (rels : Relations) (t : Tabled) → Bounds t → NoneStops rels t (right_events t)
     → NoneStops rels t (all_last_events t) → NoneStops rels t (all_relation_events t)
     → FewHold rels t
@@ -247,14 +251,28 @@ does_step rels t ms j h o all i =
     (λ k q. each_of t P (λ m. tries (StepUp j m)) k
     (all_right P (at_each (xs t) (λ m. makes (StepUp j m))) (at_each (xs t) (λ m. tries (StepUp j m))) none) q)
 
-pub few_follow : (rels : Relations) (t : Tabled) (ms : List ℕ) → IsAbove rels → IsTabled t
-    → last_of t ≡ rels.count
-    → ((vs : List ℕ) (v : ℕ) (c : ℤ) → unsigned_abs c ≤ 1
-    → NoneOverflows t.level (generators t) (poly_at t) vs v c)
-    → AreEnough rels t.level ms → AllStep rels t ms → NoneStops rels t (right_events t)
-    → NoneStops rels t (all_last_events t) → NoneStops rels t (all_relation_events t)
-    → NoneStops rels t (all_step_events t)
-few_follow rels t ms a h e n enough steps rights lasts relations =
-    steps_follow rels t h e n
-    (few_make_table rels t ms a h e (few_hold rels t (bounds_of t h) rights lasts relations)
-    (λ m o i. does_step rels t ms m h o steps i) enough)
+abbrev pub FitsAll : ℕ → List (List Term) → Type 0
+FitsAll level ps = (vs : List ℕ) (v : ℕ) (c : ℤ) → unsigned_abs c ≤ 1
+    → NoneOverflows level (length ps) (poly_from level ps) vs v c
+
+pub record WereTried (pres : Presented) (t : Tabled) (ms : List ℕ) : Type 0 where
+  pub fits : FitsAll t.level t.polys
+  pub enough : AreEnough (relations_of pres) t.level ms
+  pub steps : AllStep (relations_of pres) t ms
+  pub rights : NoneStops (relations_of pres) t (right_events t)
+  pub lasts : NoneStops (relations_of pres) t (all_last_events t)
+
+pub few_follow : (pres : Presented) (t : Tabled) (ms : List ℕ) → IsPresentation (relations_of pres)
+    → IsTabled t → last_of t ≡ length pres.names → WereTried pres t ms
+    → NoneStops (relations_of pres) t (all_relation_events t)
+    → NoneStops (relations_of pres) t (all_step_events t)
+few_follow pres t ms p h e w relations =
+    let rels = relations_of pres in
+    steps_follow rels t h e w.fits
+    (few_make_table rels t ms p.above h e (few_hold rels t (bounds_of t h) w.rights w.lasts relations)
+    (λ m o i. does_step rels t ms m h o w.steps i) w.enough)
+
+pub fits_all : (t : Tabled) (level : ℕ) (ps : List (List Term)) → level ≡ t.level → ps ≡ t.polys
+    → FitsAll level ps → FitsAll t.level t.polys
+fits_all t level ps e f h =
+    subst (λ (l : ℕ). FitsAll l t.polys) e (subst (FitsAll level) f h)

@@ -5,6 +5,7 @@ mod checking;
 mod comparing;
 mod drawing;
 mod failure;
+mod few;
 mod halt;
 mod identity;
 mod last_letters;
