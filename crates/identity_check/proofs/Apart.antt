@@ -14,13 +14,11 @@ use Rattle.binom_poly.specs.Variable.{y_of}
 use Rattle.binom_poly.specs.Collected.{constant_terms, var_terms}
 use Rattle.binom_poly.proofs.Unique.{equal_or_split}
 use Rattle.binom_poly.proofs.Canonical.{all_monomials, polynomial-nothing, polynomial-var}
-use Rattle.poly_subst.specs.Walk.{in_x, in_y}
 use Rattle.poly_subst.proofs.Vanishing.{polynomial-without}
 use Rattle.hall_table.specs.Tabled.{Tabled, IsTabled, poly_at}
-use Rattle.hall_table.specs.Order.{generators}
 use Rattle.identity_check.specs.declared.identity.Identity.{Identity}
 use Rattle.identity_check.specs.declared.identity.Identity.TheVariants.{UnitRight, UnitLeft, Up, Down, StepUp, StepDown, Relation}
-use Rattle.identity_check.specs.Sides.{xs, ys, cleared, step, last_step, last_added, left_step, right_step, entry_of_unit, entry_of_pair, left_of, right_of}
+use Rattle.identity_check.specs.Sides.{xs, ys, cleared, last_step, last_added, left_step, right_step, entry_of_unit, entry_of_pair, left_of, right_of}
 use Rattle.identity_check.specs.Overflowing.{StepOverflows, LastStepOverflows, StepSidesOverflow, MakingOverflows, SidesOverflow}
 use Rattle.identity_check.specs.Signs.{number_of}
 use Rattle.identity_check.specs.Events.{Stops, HaveEqualSides}
@@ -29,7 +27,6 @@ use Rattle.identity_check.specs.Points.{IsGenerator, IsIdentityOf, IsMade, AreEq
 use Rattle.identity_check.proofs.Agreeing.{bounds_of, IsOf, form_at}
 use Rattle.identity_check.proofs.ByNumber.{polynomial_number, is_step}
 use Rattle.identity_check.proofs.Products.{polynomial-sum_of}
-use Rattle.identity_check.proofs.Substituted.{is_substituted}
 use Rattle.identity_check.proofs.OrderConditions.{last_added_before, last_added_here, last_added_after}
 use Rattle.identity_check.proofs.StepConditions.{AreSteps, steps_made, substituted-left, substituted-right}
 use Rattle.identity_check.proofs.MadeSides.{small_sum}

@@ -2,16 +2,15 @@
 -- table; and in a table the step identities hold.
 --   rels a presentation · t table · j < l and k m generators, ms a list of them · c 1 or -1 · a point
 --   x y vectors
-use Rattle.std.proofs.Common.{◌≡◌, ℕ, zero, suc, ◌+◌, ◌-◌, ◌<◌, ◌≤◌, true, false, List, [], ◌∷◌, ◌++◌, length, Contains, sym, ap, ◌∙◌, subst, arith, inl, inr}
-use Rattle.std.specs.Prelude.{All, unsigned_abs}
-use Rattle.std.specs.List.{flat_map}
-use Rattle.std.proofs.lemmas.List.Elements.{All-nil, All-append, All-contains}
+use Rattle.std.proofs.Common.{◌≡◌, ℕ, suc, ◌+◌, ◌-◌, ◌<◌, ◌≤◌, List, length, Contains, sym, ap, ◌∙◌, subst, arith, inl, inr}
+use Rattle.std.specs.Prelude.{unsigned_abs}
+use Rattle.std.proofs.lemmas.List.Elements.{All-append, All-contains}
 use lib.IntN.{ℤ, pos, negsuc}
 use Rattle.nil_word.specs.Words.{up, down, IsVector}
 use Rattle.nil_word.specs.Congruence.{Relations, IsAbove}
 use Rattle.nil_pres.specs.Presented.{Presented}
 use Rattle.nil_pres.specs.Relations.{relations_of}
-use Rattle.nil_word.specs.Exponents.{entry, numbers}
+use Rattle.nil_word.specs.Exponents.{entry}
 use Rattle.hall_law.specs.Table.{zeros, added, single, exponents, from_entries, IsPresentation, IsTable}
 use Rattle.hall_law.specs.Nucleus.{IsCandidate, DoesStep, KeepsRelations}
 use Rattle.hall_law.proofs.Grading.{IsClosed-from_entries, entry-from_entries}

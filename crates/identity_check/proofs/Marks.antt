@@ -1,13 +1,13 @@
 -- Marked generators, and what a right side draws.
 --   rels a presentation · pres as contracts see it · j < l and k m generators, ms ns lists of them
 --   marks by generator · right a right side · s syllable
-use Rattle.std.proofs.Common.{◌≡◌, ◌≢◌, ◌⊎◌, ℕ, ◌+◌, ◌<◌, ◌≤◌, Bool, true, false, if◌then◌else◌, List, [], ◌∷◌, ◌++◌, length, Contains, refl, sym, ap, ◌∙◌, subst, arith, inl, inr}
+use Rattle.std.proofs.Common.{◌≡◌, ◌≢◌, ℕ, ◌+◌, ◌<◌, ◌≤◌, Bool, true, false, if◌then◌else◌, List, [], ◌∷◌, ◌++◌, length, Contains, refl, sym, ap, ◌∙◌, subst, arith, inl, inr}
 use Rattle.std.specs.Prelude.{All, replicate, slice_set, slice_index_or}
 use Rattle.std.proofs.lemmas.Bool.{cases_lt, false≢true}
 use Rattle.std.proofs.lemmas.Bool.Decides.{eqb_tells}
 use Rattle.std.proofs.lemmas.List.{get_or-set_other, get_or-replicate, get_or_past, length-replicate, length-set}
 use Rattle.std.proofs.lemmas.List.Elements.{All-head, All-tail, All-nil, All-push, Contains-push, Contains-append_left}
-use lib.IntN.{ℤ, pos, negsuc}
+use lib.IntN.{pos}
 use Rattle.nil_word.specs.Congruence.{Relations}
 use Rattle.nil_word.specs.Exponents.{count}
 use Rattle.nil_pres.specs.declared.syllable.Syllable.{Syllable}
@@ -80,7 +80,7 @@ pair_draws pres level ms marks j l m p least low below high mj ml left h =
     λ k. count-pair pres k j l p (omega arith) below high in
     one_more rels level ms marks m h
     (by_pair j l m low below high
-    (elim left.once [ | inl e ↦ inl (is m ∙ e) | inr e ↦ inr (is m ∙ e) ])
+    (elim left.once [ inl e ↦ inl (is m ∙ e) | inr e ↦ inr (is m ∙ e) ])
     (h j mj) (h l ml)
     (λ k n z. h k (marked_there right marks m k left.others n (λ e. z (is k ∙ e)))))
 

@@ -7,7 +7,7 @@
 --   KeepDrawn rels level marks more    where these marked are drawn, those of the next list are
 --   IsLeft right marks m        m is once in a right side, and each other generator there is marked
 -- rels a presentation · k m generators, ms a list of them · marks by generator · s syllable
-use Rattle.std.specs.Prelude.{◌≡◌, ◌≢◌, ◌⊎◌, ℕ, ◌≤◌, ℤ, pos, negsuc, Bool, false, List, All, Contains, IsTrue, slice_index_or}
+use Rattle.std.specs.Prelude.{◌≡◌, ◌≢◌, ◌⊎◌, ℕ, ◌≤◌, pos, negsuc, Bool, false, List, All, Contains, IsTrue, slice_index_or}
 use Rattle.nil_word.specs.Congruence.{Relations}
 use Rattle.nil_pres.specs.declared.syllable.Syllable.{Syllable}
 use Rattle.hall_law.specs.Nucleus.{IsDrawn}

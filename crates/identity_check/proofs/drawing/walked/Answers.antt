@@ -1,4 +1,4 @@
-use Rattle.std.proofs.Common.{◌∙◌, ◌+◌, suc, ap, sym, subst, arith}
+use Rattle.std.proofs.Common.{◌∙◌, ◌+◌, ap, sym, subst, arith}
 use Rattle.nil_pres.specs.Relations.{relations_of}
 use Rattle.identity_check.proofs.Marks.{IsWalked, walk_begins, walked_on, passed_by, walk_ends}
 use Rattle.identity_check.proofs.drawing.walked.Goals.{then-not-marks-k+in_ok-push, else-not-marks-k}
