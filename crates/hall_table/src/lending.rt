@@ -16,4 +16,10 @@ impl Table {
     {
         &self.polys[(k - self.level) as usize]
     }
+    /// All polynomials, from the level on, lent.
+    pub fn lend_all(&self) -> &[Poly]
+        ensures { result.now ≡ self.now.polys }
+    {
+        &self.polys
+    }
 }

@@ -19,6 +19,7 @@ use Rattle.identity_check.specs.declared.identity.Identity.TheVariants.{UnitRigh
 use Rattle.identity_check.specs.Sides.{unit_vector, entry_of_unit, entry_of_pair, left_of, right_of}
 use Rattle.identity_check.specs.Overflowing.{MakingOverflows, SidesOverflow}
 use Rattle.identity_check.specs.Events.{Stops, HaveEqualSides}
+use Rattle.identity_check.specs.Events.Event.{makes, tries}
 use Rattle.identity_check.proofs.Agreeing.{bounds_of, IsOf, at-values, values_are}
 use Rattle.identity_check.proofs.ByNumber.{unit_up, unit_down}
 use Rattle.identity_check.proofs.UnitConditions.{unit_right, unit_left}
@@ -39,16 +40,37 @@ unfolding number_of
 sign_is true = refl
 sign_is false = refl
 
+pub order_up : (rels : Relations) (t : Tabled) (j : ℕ) → IsTabled t → IsOf t j
+    → ((k : ℕ) → IsOf t k → ¬ Stops rels t (tries (Up j k)))
+    → (x : List ℤ) → IsVector (last_of t) t.level x → IsZeroAbove j x
+    → values t x (single (last_of t) j (pos 1)) ≡ added x j (pos 1)
+unfolding left_of right_of SidesOverflow
+order_up rels t j h o n =
+    last_is_added t j (pos 1) h o unit_up (λ k q v. n k q (inl v))
+    (λ k q. sides_equal rels t (Up j k) (n k q))
+
 order_of : (rels : Relations) (t : Tabled) (j : ℕ) (up : Bool) → IsTabled t → Walk rels t → IsOf t j
     → (x : List ℤ) → IsVector (last_of t) t.level x → IsZeroAbove j x
     → values t x (single (last_of t) j (number_of up)) ≡ added x j (number_of up)
 unfolding number_of left_of right_of SidesOverflow
-order_of rels t j true h w o =
-    last_is_added t j (pos 1) h o unit_up (λ k q v. w.up j k o q (inl v))
-    (λ k q. sides_equal rels t (Up j k) (w.up j k o q))
+order_of rels t j true h w o = order_up rels t j h o (λ k q. w.up j k o q)
 order_of rels t j false h w o =
     last_is_added t j (negsuc 0) h o unit_down (λ k q v. w.down j k o q (inl v))
     (λ k q. sides_equal rels t (Down j k) (w.down j k o q))
+
+pub step_up : (rels : Relations) (t : Tabled) (j : ℕ) → IsTabled t → IsOf t j
+    → ((k : ℕ) → IsOf t k → ¬ Stops rels t (makes (StepUp j k)))
+    → ((k : ℕ) → IsOf t k → ¬ Stops rels t (tries (StepUp j k)))
+    → (x y : List ℤ) → IsVector (last_of t) t.level x → IsVector (last_of t) t.level y
+    → values t x (values t y (single (last_of t) j (pos 1)))
+    ≡ values t (values t x y) (single (last_of t) j (pos 1))
+unfolding left_of right_of SidesOverflow MakingOverflows
+step_up rels t j h o m n =
+    steps_on t j (pos 1) h o unit_up (record {
+      makes = λ k q v. m k q (inl v);
+      fits = λ k q v. n k q (inl v);
+      same = λ k q. sides_equal rels t (StepUp j k) (n k q);
+    })
 
 step_of_letter : (rels : Relations) (t : Tabled) (j : ℕ) (up : Bool) → IsTabled t → Walk rels t
     → IsOf t j → (x y : List ℤ) → IsVector (last_of t) t.level x → IsVector (last_of t) t.level y
@@ -56,11 +78,7 @@ step_of_letter : (rels : Relations) (t : Tabled) (j : ℕ) (up : Bool) → IsTab
     ≡ values t (values t x y) (single (last_of t) j (number_of up))
 unfolding number_of left_of right_of SidesOverflow MakingOverflows
 step_of_letter rels t j true h w o =
-    steps_on t j (pos 1) h o unit_up (record {
-      makes = λ k q v. w.makes_up j k o q (inl v);
-      fits = λ k q v. w.step_up j k o q (inl v);
-      same = λ k q. sides_equal rels t (StepUp j k) (w.step_up j k o q);
-    })
+    step_up rels t j h o (λ k q. w.makes_up j k o q) (λ k q. w.step_up j k o q)
 step_of_letter rels t j false h w o =
     steps_on t j (negsuc 0) h o unit_down (record {
       makes = λ k q v. w.makes_down j k o q (inl v);
@@ -85,12 +103,13 @@ same_constants x y e =
     sym (value-constant_terms (λ v. pos 0) x) ∙ ap (value_of (λ v. pos 0)) e
     ∙ value-constant_terms (λ v. pos 0) y
 
-pair_multiplies : (rels : Relations) (t : Tabled) (j l : ℕ) → IsAbove rels → IsTabled t
-    → last_of t ≡ rels.count → Walk rels t → t.level ≤ j → j < l → l ≤ rels.count
+pub pair_multiplies : (rels : Relations) (t : Tabled) (j l : ℕ) → IsAbove rels → IsTabled t
+    → last_of t ≡ rels.count → ((k : ℕ) → IsOf t k → ¬ Stops rels t (tries (Relation j l k)))
+    → t.level ≤ j → j < l → l ≤ rels.count
     → values t (unit_vector t l) (unit_vector t j)
     ≡ added (added (exponents rels.count (rels.right j l)) l (pos 1)) j (pos 1)
 unfolding left_of right_of
-pair_multiplies rels t j l a h e w low below high =
+pair_multiplies rels t j l a h e n low below high =
     let b = bounds_of t h in
     let least : 1 ≤ t.level = b.least in
     let oj : IsOf t j = record { low = low; high = omega arith } in
@@ -105,7 +124,13 @@ pair_multiplies rels t j l a h e w low below high =
     values_are t (unit_vector t l) (unit_vector t j) (added (added v l (pos 1)) j (pos 1)) h
     (vector_single t l (pos 1) b ol) (vector_single t j (pos 1) b oj) at
     (λ k q. same_constants (entry_of_unit t j l k) (entry_of_pair rels j l k)
-    (sides_equal rels t (Relation j l k) (w.relation j l k oj below ol.high q)))
+    (sides_equal rels t (Relation j l k) (n k q)))
+
+pair_walked : (rels : Relations) (t : Tabled) (j l : ℕ) → last_of t ≡ rels.count → Walk rels t
+    → t.level ≤ j → j < l → l ≤ rels.count
+    → (k : ℕ) → IsOf t k → ¬ Stops rels t (tries (Relation j l k))
+pair_walked rels t j l e w low below high k q =
+    w.relation j l k record { low = low; high = omega arith } below (omega arith) q
 
 -- ---- the table
 pub accepted : (rels : Relations) (t : Tabled) → IsAbove rels → IsTabled t → last_of t ≡ rels.count
@@ -147,6 +172,7 @@ accepted rels t a h e s =
             subst (λ (v : ℤ). f x (f y (single (last_of t) c.number v))
             ≡ f (f x y) (single (last_of t) c.number v)) (sym (sign_is c.up))
             (step_of_letter rels t c.number c.up h w record { low = i.0; high = i.1 } x y hx hy));
-        relations = subst Pair_at e (λ j l low below high. pair_multiplies rels t j l a h e w low below high);
+        relations = subst Pair_at e (λ j l low below high.
+            pair_multiplies rels t j l a h e (pair_walked rels t j l e w low below high) low below high);
       };
     }

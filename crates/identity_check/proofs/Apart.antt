@@ -14,13 +14,11 @@ use Rattle.binom_poly.specs.Variable.{y_of}
 use Rattle.binom_poly.specs.Collected.{constant_terms, var_terms}
 use Rattle.binom_poly.proofs.Unique.{equal_or_split}
 use Rattle.binom_poly.proofs.Canonical.{all_monomials, polynomial-nothing, polynomial-var}
-use Rattle.poly_subst.specs.Walk.{in_x, in_y}
 use Rattle.poly_subst.proofs.Vanishing.{polynomial-without}
 use Rattle.hall_table.specs.Tabled.{Tabled, IsTabled, poly_at}
-use Rattle.hall_table.specs.Order.{generators}
 use Rattle.identity_check.specs.declared.identity.Identity.{Identity}
 use Rattle.identity_check.specs.declared.identity.Identity.TheVariants.{UnitRight, UnitLeft, Up, Down, StepUp, StepDown, Relation}
-use Rattle.identity_check.specs.Sides.{xs, ys, cleared, step, last_step, last_added, left_step, right_step, entry_of_unit, entry_of_pair, left_of, right_of}
+use Rattle.identity_check.specs.Sides.{xs, ys, cleared, last_step, last_added, left_step, right_step, entry_of_unit, entry_of_pair, left_of, right_of}
 use Rattle.identity_check.specs.Overflowing.{StepOverflows, LastStepOverflows, StepSidesOverflow, MakingOverflows, SidesOverflow}
 use Rattle.identity_check.specs.Signs.{number_of}
 use Rattle.identity_check.specs.Events.{Stops, HaveEqualSides}
@@ -29,9 +27,8 @@ use Rattle.identity_check.specs.Points.{IsGenerator, IsIdentityOf, IsMade, AreEq
 use Rattle.identity_check.proofs.Agreeing.{bounds_of, IsOf, form_at}
 use Rattle.identity_check.proofs.ByNumber.{polynomial_number, is_step}
 use Rattle.identity_check.proofs.Products.{polynomial-sum_of}
-use Rattle.identity_check.proofs.Substituted.{is_substituted}
 use Rattle.identity_check.proofs.OrderConditions.{last_added_before, last_added_here, last_added_after}
-use Rattle.identity_check.proofs.StepConditions.{AreSteps, put_in_x, put_in_y, steps_made}
+use Rattle.identity_check.proofs.StepConditions.{AreSteps, steps_made, substituted-left, substituted-right}
 use Rattle.identity_check.proofs.MadeSides.{small_sum}
 use Rattle.identity_check.proofs.MadeSteps.{unit_of}
 use Rattle.identity_check.proofs.Pushing.{x_variable, y_variable}
@@ -104,11 +101,8 @@ step_apart : (t : Tabled) (j k : ℕ) (up : Bool) → IsTabled t → IsOf t k
 step_apart t j k up h o m n d =
     let c = number_of up in
     let s : AreSteps t j c = steps_made t j c h (unit_of up) (λ i q. m i (q.low, q.high)) in
-    apart (left_step t j c k) (right_step t j c k)
-    ((is_substituted (poly_at t k) (in_y t.level (generators t) (step t j c)) (form_at t k h o)
-    (put_in_y t j c h s) (λ w. n (inl w))).form)
-    ((is_substituted (step t j c k) (in_x t.level (generators t) (poly_at t)) ((s k o).form)
-    (put_in_x t h) (λ w. n (inr w))).form) d
+    apart (left_step t j c k) (right_step t j c k) ((substituted-left t j c k h s o n).form)
+    ((substituted-right t j c k h s o n).form) d
 
 -- ---- identities
 sides_apart : (rels : Relations) (t : Tabled) (id : Identity) → IsTabled t → IsIdentityOf t id

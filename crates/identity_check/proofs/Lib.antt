@@ -9,6 +9,7 @@ pub mod OrderConditions
 pub mod StepConditions
 pub mod Walked
 pub mod Accepted
+pub mod FewSteps
 pub mod Halting
 pub mod Stretches
 pub mod Pushing
@@ -17,6 +18,7 @@ pub mod Putting
 pub mod MadeSteps
 pub mod Constants
 pub mod PairEntries
+pub mod Marks
 pub mod PutPairs
 pub mod Showing
 pub mod Apart

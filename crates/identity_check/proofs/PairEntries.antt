@@ -66,7 +66,7 @@ count-right low high (s ∷ rest) m h =
           omega (arith, ints, joined, is, first, count-right s.number high rest m h.4)
     ]
 
-count-pair : (p : Presented) (k j l : ℕ) → IsPresented p → 1 ≤ j → j < l → l ≤ length p.names
+pub count-pair : (p : Presented) (k j l : ℕ) → IsPresented p → 1 ≤ j → j < l → l ≤ length p.names
     → count ((relations_of p).right j l) k ≡ exponent_in k (right_of p j l)
 count-pair p k j l h a b d =
     let pair : is_pair p j l ≡ true =

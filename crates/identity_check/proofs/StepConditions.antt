@@ -172,58 +172,93 @@ ys_by t j c a = replaced (in_y t.level (generators t) (step t j c)) a
 abbrev xs_by : Tabled → (ℕ → ℤ) → ℕ → ℤ
 xs_by t a = replaced (in_x t.level (generators t) (poly_at t)) a
 
--- the y are the entries of f(y, e)
-agree_y : (t : Tabled) (j : ℕ) (c : ℤ) (x y : List ℤ) → IsTabled t → IsOf t j → AreSteps t j c
-    → AgreeOn t (ys_by t j c (point_of x y))
-    (point_of x (values t y (single (last_of t) j c)))
-agree_y t j c x y h o s =
+-- the y are the entries of f(y, e), at a point that agrees with x and y
+agree_y : (t : Tabled) (j : ℕ) (c : ℤ) (a : ℕ → ℤ) (x y : List ℤ) → IsTabled t → IsOf t j
+    → AreSteps t j c → AgreeOn t a (point_of x y)
+    → AgreeOn t (ys_by t j c a) (point_of x (values t y (single (last_of t) j c)))
+agree_y t j c a x y h o s g =
     let b = bounds_of t h in
-    let a = point_of x y in
     let v = values t y (single (last_of t) j c) in
     let last : last_of t ≤ 48 = b.last in
     record {
       x = λ m q.
           ap (λ (r : Option (List Term)). value_by r a m)
           (assigned-in_y_x t.level (generators t) (step t j c) m (omega (arith, q.high)))
-          ∙ point-x t x y m b q ∙ sym (point-x t x v m b q);
+          ∙ g.x m q ∙ point-x t x y m b q ∙ sym (point-x t x v m b q);
       y = λ m q.
           ap (λ (r : Option (List Term)). value_by r a (y_of m))
           (assigned-in_y t.level (generators t) (step t j c) m q.low (omega (arith, q.high, b.end)))
           ∙ value-terms_to_y a (step t j c m)
           ∙ (s m q).value (λ w. a (y_of w)) (point_of y (single (last_of t) j c))
           (agree_step t j c (λ w. a (y_of w)) y b o
-          (λ k p. point-y x y k))
+          (λ k p. g.y k p ∙ point-y x y k))
           ∙ sym (point-y x v m ∙ entry_is t y (single (last_of t) j c) m h q);
     }
 
 -- the x are the entries of f(x, y)
-entry_by : (t : Tabled) (x y : List ℤ) (m : ℕ) → IsTabled t → IsOf t m
-    → xs_by t (point_of x y) m ≡ entry (values t x y) m
-entry_by t x y m h q =
+entry_by : (t : Tabled) (a : ℕ → ℤ) (x y : List ℤ) (m : ℕ) → IsTabled t → IsOf t m
+    → AgreeOn t a (point_of x y) → xs_by t a m ≡ entry (values t x y) m
+entry_by t a x y m h q g =
     let b = bounds_of t h in
-    ap (λ (r : Option (List Term)). value_by r (point_of x y) m)
+    ap (λ (r : Option (List Term)). value_by r a m)
     (assigned-in_x t.level (generators t) (poly_at t) m q.low (omega (arith, q.high, b.end)))
-    ∙ sym (entry_is t x y m h q)
+    ∙ value-agree_on t m a (point_of x y) h q g ∙ sym (entry_is t x y m h q)
 
 -- ---- the sides
+pub steps_made : (t : Tabled) (j : ℕ) (c : ℤ) → IsTabled t → IsUnit c
+    → ((m : ℕ) → IsOf t m → ¬ StepOverflows t j c m) → AreSteps t j c
+steps_made t j c h u n = λ m o. is_step t m (other_ys t j) (y_of j) c h o u (n m o)
+
+pub substituted-left : (t : Tabled) (j : ℕ) (c : ℤ) (k : ℕ) → IsTabled t → AreSteps t j c
+    → IsOf t k → ¬ StepSidesOverflow t j c k
+    → IsSubstituted (poly_at t k) (in_y t.level (generators t) (step t j c))
+substituted-left t j c k h s q n =
+    is_substituted (poly_at t k) (in_y t.level (generators t) (step t j c)) (form_at t k h q)
+    (put_in_y t j c h s) (λ w. n (inl w))
+
+pub substituted-right : (t : Tabled) (j : ℕ) (c : ℤ) (k : ℕ) → IsTabled t → AreSteps t j c
+    → IsOf t k → ¬ StepSidesOverflow t j c k
+    → IsSubstituted (step t j c k) (in_x t.level (generators t) (poly_at t))
+substituted-right t j c k h s q n =
+    is_substituted (step t j c k) (in_x t.level (generators t) (poly_at t)) ((s k q).form)
+    (put_in_x t h) (λ w. n (inr w))
+
+pub value-left_step : (t : Tabled) (j : ℕ) (c : ℤ) (k : ℕ) (a : ℕ → ℤ) (x y : List ℤ)
+    → IsTabled t → IsOf t j → AreSteps t j c → IsOf t k → ¬ StepSidesOverflow t j c k
+    → AgreeOn t a (point_of x y)
+    → value_of a (left_step t j c k) ≡ entry (values t x (values t y (single (last_of t) j c))) k
+value-left_step t j c k a x y h o s q n g =
+    let v = values t y (single (last_of t) j c) in
+    (substituted-left t j c k h s q n).value a
+    ∙ value-agree_on t k (ys_by t j c a) (point_of x v) h q (agree_y t j c a x y h o s g)
+    ∙ sym (entry_is t x v k h q)
+
+pub value-right_step : (t : Tabled) (j : ℕ) (c : ℤ) (k : ℕ) (a : ℕ → ℤ) (x y : List ℤ)
+    → IsTabled t → IsOf t j → AreSteps t j c → IsOf t k → ¬ StepSidesOverflow t j c k
+    → AgreeOn t a (point_of x y)
+    → value_of a (right_step t j c k) ≡ entry (values t (values t x y) (single (last_of t) j c)) k
+value-right_step t j c k a x y h o s q n g =
+    let b = bounds_of t h in
+    let e = single (last_of t) j c in
+    (substituted-right t j c k h s q n).value a
+    ∙ (s k q).value (xs_by t a) (point_of (values t x y) e)
+    (agree_step t j c (xs_by t a) (values t x y) b o (λ m p. entry_by t a x y m h p g))
+    ∙ sym (entry_is t (values t x y) e k h q)
+
 pub record StepsAlike (t : Tabled) (j : ℕ) (c : ℤ) : Type 0 where
   pub makes : (m : ℕ) → IsOf t m → ¬ StepOverflows t j c m
   pub fits : (k : ℕ) → IsOf t k → ¬ StepSidesOverflow t j c k
   pub same : (k : ℕ) → IsOf t k → left_step t j c k ≡ right_step t j c k
-
-pub steps_made : (t : Tabled) (j : ℕ) (c : ℤ) → IsTabled t → IsUnit c
-    → ((m : ℕ) → IsOf t m → ¬ StepOverflows t j c m) → AreSteps t j c
-steps_made t j c h u n = λ m o. is_step t m (other_ys t j) (y_of j) c h o u (n m o)
 
 pub steps_on : (t : Tabled) (j : ℕ) (c : ℤ) → IsTabled t → IsOf t j → IsUnit c → StepsAlike t j c
     → (x y : List ℤ) → IsVector (last_of t) t.level x → IsVector (last_of t) t.level y
     → values t x (values t y (single (last_of t) j c))
     ≡ values t (values t x y) (single (last_of t) j c)
 steps_on t j c h o u g x y hx hy =
-    let b = bounds_of t h in
     let e = single (last_of t) j c in
-    let he = vector_single t j c b o in
+    let he = vector_single t j c (bounds_of t h) o in
     let a = point_of x y in
+    let agree : AgreeOn t a a = record { x = λ m q. refl; y = λ m q. refl } in
     let s = steps_made t j c h u g.makes in
     let vector : (v w : List ℤ) → IsVector (last_of t) t.level v → IsVector (last_of t) t.level w
     → IsVector (last_of t) t.level (values t v w) = λ v w hv hw. at-values t v w h hv hw in
@@ -233,16 +268,5 @@ steps_on t j c h o u g x y hx hy =
     (at_of (last_of t) t.level (values t (values t x y) e)
     (vector (values t x y) e (vector x y hx hy) he))
     (λ k q.
-    let l : IsSubstituted (poly_at t k) (in_y t.level (generators t) (step t j c)) =
-    is_substituted (poly_at t k) (in_y t.level (generators t) (step t j c)) (form_at t k h q)
-    (put_in_y t j c h s) (λ w. g.fits k q (inl w)) in
-    let r : IsSubstituted (step t j c k) (in_x t.level (generators t) (poly_at t)) =
-    is_substituted (step t j c k) (in_x t.level (generators t) (poly_at t)) ((s k q).form)
-    (put_in_x t h) (λ w. g.fits k q (inr w)) in
-    entry_is t x (values t y e) k h q
-    ∙ sym (value-agree_on t k (ys_by t j c a) (point_of x (values t y e)) h q
-    (agree_y t j c x y h o s))
-    ∙ sym (l.value a) ∙ ap (value_of a) (g.same k q) ∙ r.value a
-    ∙ (s k q).value (xs_by t a) (point_of (values t x y) e)
-    (agree_step t j c (xs_by t a) (values t x y) b o (λ m p. entry_by t x y m h p))
-    ∙ sym (entry_is t (values t x y) e k h q))
+    sym (value-left_step t j c k a x y h o s q (g.fits k q) agree) ∙ ap (value_of a) (g.same k q)
+    ∙ value-right_step t j c k a x y h o s q (g.fits k q) agree)

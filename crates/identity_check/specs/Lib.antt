@@ -8,5 +8,7 @@ pub mod Points
 pub mod Halts
 pub mod Signs
 pub mod Pairs
+pub mod Drawing
+pub mod Few
 pub mod Verdicts
 pub mod Texts

@@ -3,7 +3,9 @@
 
 mod checking;
 mod comparing;
+mod drawing;
 mod failure;
+mod few;
 mod halt;
 mod identity;
 mod last_letters;

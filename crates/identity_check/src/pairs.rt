@@ -22,7 +22,7 @@ use nil_pres::{Presentation, Syllable};
 use std::alloc::Global;
 
 /// The exponent of a generator in a right side.
-fn exponent_in(right: &[Syllable], k: u32) -> i64
+pub fn exponent_in(right: &[Syllable], k: u32) -> i64
     ensures { result ≡ exponent_in k right.now }
 {
     for syllable in right {

@@ -12,6 +12,7 @@ ghost use Rattle.identity_check.specs.Events.{events, last_events, relation_even
 ghost use Rattle.identity_check.specs.Halts.{Walks, WalksIn};
 ghost use Rattle.identity_check.specs.Pairs.{AreZero};
 
+use crate::few::few_hold;
 use crate::halt::Halt;
 use crate::last_letters::last_letters;
 use crate::pairs::relations;
@@ -92,7 +93,7 @@ fn later_relations(
 }
 
 /// Tries these of each generator.
-fn all_relations(alloc: Global, pres: &Presentation, table: &Table) -> Result<(), Halt>
+pub fn all_relations(alloc: Global, pres: &Presentation, table: &Table) -> Result<(), Halt>
     requires { last_of table.now ≡ length pres.now.names }
     ensures { WalksIn (relations_of pres.now) table.now
         (flat_map (relation_events (xs table.now) (last_of table.now)) (xs table.now)) result }
@@ -113,6 +114,9 @@ pub fn walk(alloc: Global, pres: &Presentation, table: &Table) -> Result<(), Hal
     units_right(alloc, table)?;
     units_left(alloc, table)?;
     all_last(alloc, table)?;
+    if few_hold(alloc, pres, table)? {
+        return Ok(());
+    }
     all_steps(alloc, table)?;
     all_relations(alloc, pres, table)
 }

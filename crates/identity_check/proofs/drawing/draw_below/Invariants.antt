@@ -1,0 +1,6 @@
+use Rattle.nil_pres.specs.Relations.{relations_of}
+use Rattle.identity_check.specs.Drawing.{KeepDrawn}
+use Rattle.identity_check.proofs.drawing.draw_below.Given as goal
+
+abbrev pub invariant-loop-j : goal.invariant-loop-j
+invariant-loop-j l = KeepDrawn (relations_of l.pres) l.level l.fn.marks l.marks

@@ -1,0 +1,66 @@
+//! Whether few of the step identities are enough, so that the others needn't be tried.
+
+ghost use Rattle.std.specs.Prelude.{◌≡◌, ℕ, ℤ, length, unsigned_abs, IfOk, IsTrue, OnOk};
+ghost use Rattle.nil_word.specs.Congruence.{Relations};
+ghost use Rattle.nil_pres.specs.Relations.{relations_of};
+ghost use Rattle.hall_table.specs.Tabled.{last_of};
+ghost use Rattle.identity_check.specs.Drawing.{AreGenerators};
+ghost use Rattle.identity_check.specs.Few.{AllStep, NoneStops, all_last_events, all_relation_events, all_step_events, right_events};
+
+use crate::Memory;
+use crate::drawing::walked;
+use crate::halt::Halt;
+use crate::steps::{put_x, steps};
+use crate::walking::all_relations;
+use hall_table::Table;
+use hall_table::presentations::relations;
+use nil_pres::Presentation;
+use poly_subst::steps_fit;
+use std::alloc::{AllocError, Global};
+
+/// Tries the step identities of some generators, and not those of their inverses.
+fn steps_up(alloc: Global, table: &Table, walked: &[u32]) -> Result<(), Halt>
+    requires { AreGenerators table.now.level (last_of table.now) walked.now }
+    ensures { OnOk result ((rels : Relations) → AllStep rels table.now walked.now) }
+{
+    let mut put = put_x(alloc, table)?;
+    for j in walked {
+        steps(alloc, table, &mut put, *j, true)?;
+    }
+    Ok(())
+}
+
+/// Whether a walk met no event that stops.
+fn is_through(walk: Result<(), Halt>) -> Result<bool, Memory>
+    ensures { IfOk result (λ through. IsTrue through → walk ≡ Ok tt) }
+{
+    match walk {
+        Ok(()) => Ok(true),
+        Err(Halt::Memory) => Err(AllocError),
+        Err(_) => Ok(false),
+    }
+}
+
+/// Whether few of the step identities, with the relations, show that none of all these stops. The
+/// answer `false` says nothing.
+pub fn few_hold(alloc: Global, pres: &Presentation, table: &Table) -> Result<bool, Memory>
+    requires names { last_of table.now ≡ length pres.now.names }
+    requires rights { NoneStops (relations_of pres.now) table.now (right_events table.now) }
+    requires lasts { NoneStops (relations_of pres.now) table.now (all_last_events table.now) }
+    ensures steps { IfOk result (λ held. IsTrue held
+        → NoneStops (relations_of pres.now) table.now (all_step_events table.now)) }
+    ensures relations { IfOk result (λ held. IsTrue held
+        → NoneStops (relations_of pres.now) table.now (all_relation_events table.now)) }
+{
+    relations();
+    let _ = pres.count();
+    let _ = table.last();
+    if !steps_fit(table.level(), table.lend_all()) {
+        return Ok(false);
+    }
+    let walked = walked(alloc, pres, table.level())?;
+    if !is_through(steps_up(alloc, table, &walked))? {
+        return Ok(false);
+    }
+    is_through(all_relations(alloc, pres, table))
+}
