@@ -10,15 +10,21 @@ mod compiled;
 #[cfg(test)]
 mod examples;
 #[cfg(test)]
+mod faults;
+#[cfg(test)]
 mod files;
 #[cfg(test)]
 mod fixtures;
 #[cfg(test)]
 mod long;
 #[cfg(test)]
+mod offers;
+#[cfg(test)]
 mod own;
 #[cfg(test)]
 mod pieces;
+#[cfg(test)]
+mod prefixes;
 #[cfg(test)]
 mod proposers;
 #[cfg(test)]
