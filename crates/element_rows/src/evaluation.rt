@@ -45,7 +45,7 @@ fn reply_to(alloc: Global, line: &[u8]) -> Result<String, Fail> {
 }
 
 #[rattlefmt::skip]
-const REPLIES: [(&str, &str); 22] = [
+const REPLIES: [(&str, &str); 23] = [
     ("a2^3*a1^5",                 "5 3 15"),
     ("a1^5*a2^3",                 "5 3 0"),
     ("1",                         "0 0 0"),
@@ -67,6 +67,8 @@ const REPLIES: [(&str, &str); 22] = [
     ("1^170141183460469231731687303715884105727", "0 0 0"),
     // the magnitudes on the way sum to 2^127, though the inverse is within
     ("a1^85070591730234615865843651857942052864*a1^-85070591730234615865843651857942052864", "wide"),
+    // and these to 2^127 - 1
+    ("a1^-85070591730234615865843651857942052864*a1^85070591730234615865843651857942052863", "-1 0 0"),
     // a_1^MAX without a multiplication, and its product with itself
     ("a1^170141183460469231731687303715884105727",
         "170141183460469231731687303715884105727 0 0"),

@@ -216,6 +216,18 @@ fn the_first_place_that_overflows_is_named(rt: HostRuntime) -> Result<(), Fail> 
         Err(WideAt::RowX(3))
     );
     assert_eq!(rt; out.entries(), most.entries());
+    // The least such x, and the next one below.
+    let least = short(alloc, 0, -13043817825332782211, 0)?;
+    assert_eq!(rt;
+        table.multiply_into(&mut rows, &least, &zero, &mut out),
+        Ok(())
+    );
+    let less = short(alloc, 0, -13043817825332782212, 0)?;
+    assert_eq!(rt;
+        table.multiply_into(&mut rows, &less, &zero, &mut out),
+        Err(WideAt::RowX(3))
+    );
+    assert_eq!(rt; out.entries(), least.entries());
     Ok(())
 }
 

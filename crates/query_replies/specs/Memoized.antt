@@ -1,8 +1,8 @@
 -- Replies that are kept for when their lines are asked again.
 --   Memoized               a presentation with its table, and the kept pairs
 --   memoized c pairs       these
---   Asks line asked        the line asks so: it isn't long, and without a carriage return at its end it
---                          is this one, which says something
+--   Asks line asked        the line asks so: it isn't long, and without a carriage return at its end
+--                          it is this one, which says something
 --   AsksOneOf lines asked  one of the lines asks so
 --   AreOf lines pairs      each pair is of one of the lines
 --   IsComputed c asked t   t is the computed reply to each line that asks so

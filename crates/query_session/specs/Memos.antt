@@ -1,6 +1,6 @@
 -- What a lent memo holds after a session.
---   IsFilled opened limit a f pairs      files were got, what replies was opened over them, bytes of the
---                                        source were taken, and each pair is of one of their lines
+--   IsFilled opened limit a f pairs      files were got, what replies was opened over them, bytes of
+--                                        the source were taken, and each pair is of one of their lines
 --                                        with the right reply to it
 --   IsMemoOver opened limit a f pairs    so it is, or there is no pair
 --   IsMemoOf os command limit a f pairs  the memo after the session of a command, or of none

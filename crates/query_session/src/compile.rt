@@ -31,8 +31,8 @@ pub(crate) fn compile<H: Shelf, K: Sink>(
     proposers: Vec<Box<dyn Proposer>>,
 ) -> Status
     requires few { length proposers.items ≤ 64 }
-    ensures run { (limit : ℕ) (words : List (List ℕ)) (left : Option (List ℕ)) (faults given : ℕ) → IsCompileOf
-        (λ p i. map (λ b. proposal (named b) (gives b p i)) proposers.items) pres.now limit
+    ensures run { (limit : ℕ) (words : List (List ℕ)) (left : Option (List ℕ)) (faults given : ℕ)
+        → IsCompileOf (λ p i. map (λ b. proposal (named b) (gives b p i)) proposers.items) pres.now limit
         (asked words (H.contents shelf.old)
         (H.faults shelf.old) (H.faults shelf.new) (H.longs shelf.old) (H.longs shelf.new))
         (fed left left faults faults given given)

@@ -33,8 +33,8 @@ use query_replies::laws::equal_replies;
 use reply_memo::Answers;
 use std::alloc::Global;
 
-/// Does all that the program does, with another limit of query bytes and a lent memo. The two forms of
-/// `run` answer a line that was asked before from the memo, which then holds the replies to the
+/// Does all that the program does, with another limit of query bytes and a lent memo. The two forms
+/// of `run` answer a line that was asked before from the memo, which then holds the replies to the
 /// lines that were asked last; every other command leaves it empty.
 pub fn session_within<H: Shelf, S: Source, K: Sink>(
     alloc: Global,

@@ -1,7 +1,7 @@
 -- What is recalled of the lines of a source.
 --   RecallsNothing lines        nothing is recalled, whatever the lines are
---   last_line rest e            the line that an end adds to those that end with a line feed: the piece
---                               behind the last one, only where all was read
+--   last_line rest e            the line that an end adds to those that end with a line feed: the
+--                               piece behind the last one, only where all was read
 --   IsRecalled recalls limit f  all that is recalled is of the lines of bytes that were taken
 -- recalls lines   all that is recalled is of these lines · e end · f what is fed
 use Rattle.std.specs.Prelude.{ℕ, List, [], ◌∷◌}

@@ -18,6 +18,8 @@ mod fixtures;
 #[cfg(test)]
 mod long;
 #[cfg(test)]
+mod memo;
+#[cfg(test)]
 mod offers;
 #[cfg(test)]
 mod own;

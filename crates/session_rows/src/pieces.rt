@@ -1,27 +1,37 @@
 //! Lines that are answered as their ends are read, however their source is cut into pieces.
 
 use super::fixtures::{HEISENBERG, run_over, shelf_of, words_of};
+use super::rows::ROWS;
 use collect_text::Collector;
 use nil_io::{MemorySink, MemorySource};
 use pres_text::read;
 use session_io::answer_source;
-use std::alloc::Global;
+use std::alloc::{AllocError, Global};
 use std::test::Fail;
 
-const QUERIES: &str = "a2^3*a1^5\r\na2*(a1\n\n# note\nsolve a2 | a1\nb7\na1^a2";
-
-const REPLIES: &str = "5 3 15\nsyntax 7\n1 -1 -1\nunknown 1\n1 0 -1\n";
+/// The lines of all rows as one text, and their replies.
+fn joined(alloc: Global) -> Result<(String, String), AllocError> {
+    let mut queries = String::new(alloc);
+    let mut replies = String::new(alloc);
+    for (lines, output) in ROWS {
+        queries.push_str(lines)?;
+        queries.push_str("\n")?;
+        replies.push_str(output)?;
+    }
+    Ok((queries, replies))
+}
 
 #[test]
 fn pieces_of_any_size_get_the_same_replies(rt: HostRuntime) -> Result<(), Fail> {
     let alloc = rt.alloc();
     let words = words_of(alloc, &["run", "f"])?;
+    let (queries, replies) = joined(alloc)?;
     for piece in [1, 2, 3, 7, 100_000] {
         let mut shelf = shelf_of(alloc, HEISENBERG.as_bytes(), &[])?;
-        let bytes = QUERIES.as_bytes().to_vec(alloc)?;
+        let bytes = queries.as_bytes().to_vec(alloc)?;
         let mut source = MemorySource::new(bytes, piece, Vec::new(alloc));
         let ended = run_over(alloc, &words, &mut shelf, &mut source, &[])?;
-        assert_eq!(rt; ended.bytes.as_slice(), REPLIES.as_bytes());
+        assert_eq!(rt; ended.bytes.as_slice(), replies.as_bytes());
         assert_eq!(rt; ended.status.number(), 0);
     }
     Ok(())

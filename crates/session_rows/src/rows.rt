@@ -5,7 +5,7 @@ use std::alloc::{AllocError, Global};
 use std::test::Fail;
 
 #[rattlefmt::skip]
-const ROWS: [(&str, &str); 24] = [
+pub(crate) const ROWS: [(&str, &str); 24] = [
     ("a2^3*a1^5",                    "5 3 15\n"),
     ("a1^5*a2^3\n",                  "5 3 0\n"),
     ("1\n\n# note\n",                "0 0 0\n"),

@@ -1,7 +1,7 @@
 -- The tokens of a query line are within bounds, and what is read of them is well shaped.
 --   is_bounded n k    a generator up to n or unknown, an integer within bounds or without a value, or anything else
 --   AreBounded n ts   all of them are
-use Rattle.std.proofs.Common.{◌≡◌, ℕ, zero, suc, ◌+◌, ◌-◌, ◌==◌, ◌<◌, nat_le, Bool, true, false, cond, ◌&&◌, ◌||◌, pos, neg_ℤ, Option, Some, None, option_map, unwrap_or, position, List, [], ◌∷◌, length, Result, Ok, Err, IfOk, refl, arith, if◌then◌else◌}
+use Rattle.std.proofs.Common.{◌≡◌, ℕ, zero, suc, ◌+◌, ◌==◌, ◌<◌, nat_le, Bool, true, false, cond, ◌&&◌, ◌||◌, pos, neg_ℤ, Option, Some, None, option_map, unwrap_or, position, List, [], ◌∷◌, length, Result, Ok, Err, IfOk, refl, arith, if◌then◌else◌}
 use Rattle.std.specs.Prelude.{codes}
 use Rattle.std.specs.List.{prefix_len, take_while}
 use Rattle.std.specs.Str.{bytes_eq}

@@ -12,7 +12,7 @@
 --   written_level, written e       one level of an expression, and the expression
 --   written_query q      the tokens of a query
 -- e expression · s its shape · w what is written of it · ks tokens
-use Rattle.std.specs.Prelude.{ℕ, zero, suc, ◌-◌, ℤ, pos, Bool, true, false, List, [], ◌∷◌, ◌++◌, map, Some}
+use Rattle.std.specs.Prelude.{ℕ, zero, suc, ℤ, pos, Bool, true, false, List, [], ◌∷◌, ◌++◌, map, Some}
 use Rattle.std.specs.Ordering.{int_eq}
 use Rattle.nil_word.specs.declared.expr.Expr.{Expr, fold-Expr}
 use Rattle.nil_word.specs.declared.expr.Expr.TheOpen.{Expr-F, One, Gen, Product, Pow, Conj, Comm}

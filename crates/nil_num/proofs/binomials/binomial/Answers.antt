@@ -12,8 +12,7 @@ loop-k-init c =
 
 pub loop-k-preserved : goal.loop-k-preserved
 loop-k-preserved c =
-    let f : FitsSigned w128 c.in-Some.next = search rules in
-    (
+    let f : FitsSigned w128 c.in-Some.next = search rules in (
       to_z-of_z w128 c.in-Some.next f ∙ c.in-Some.ensures.1,
       RowOverflows-more (to_z w128 (of_z w128 c.args.x)) c.loop-k.k c.loop-k.invariant.1 c.in-Some.ensures.0,
     )

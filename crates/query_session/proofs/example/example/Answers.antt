@@ -12,8 +12,8 @@ returns-clause-run g c =
     λ limit a left faults given.
     IsTextRun-result (IsExample c.args.kind c.args.size)
     (IsSizeRefused (fault_of c.args.kind c.args.size)) limit a _ _ _
-    (size_plain (fault_of c.args.kind c.args.size) a) _ c.text_of-text.result (c.text_of-text.ensures.opened a)
-    (c.text_of-text.ensures.refused a) (record { left = refl; faults = refl; given = refl })
+    (size_plain (fault_of c.args.kind c.args.size) a) _ c.text_of-text.result
+    (c.text_of-text.ensures.opened a) (c.text_of-text.ensures.refused a) (record { left = refl; faults = refl; given = refl })
     c.write_by.ensures.written (c.write_by.ensures.refused left faults given)
 
 pub returns-clause-cause : goal.returns-clause-cause

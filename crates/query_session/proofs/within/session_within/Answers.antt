@@ -32,8 +32,8 @@ returns-in-Some-RunTable-clause-run g c =
 
 pub returns-in-Some-RunTable-clause-complete : goal.returns-in-Some-RunTable-clause-complete
 returns-in-Some-RunTable-clause-complete g c = λ p smooth none.
-    c.complete_runs.ensures _ c.args.limit _ _ p c.run_table.result (g.K.Sink.written c.args.out.now)
-    (g.K.Sink.written c.run_table.new.out) (returns-in-Some-RunTable-clause-run g c) smooth
+    c.complete_runs.ensures _ c.args.limit _ _ p c.run_table.result
+    (g.K.Sink.written c.args.out.now) (g.K.Sink.written c.run_table.new.out) (returns-in-Some-RunTable-clause-run g c) smooth
     (λ w. none (c.run_table.ensures.cause w))
 
 pub returns-in-Some-RunTable-clause-bound : goal.returns-in-Some-RunTable-clause-bound
@@ -76,8 +76,8 @@ pub returns-in-Some-Example-clause-run : goal.returns-in-Some-Example-clause-run
 returns-in-Some-Example-clause-run g c =
     let asks = rw c.in-Some-Example.field-0-is at c.in-Some-Example.ensures in
     let q = c.args.queries.now in
-    IsSession-of _ c.args.limit (asked (texts c.args.words.now.items) _ _ _ _ _) _ c.example.result _ _
-    (Some (example c.in-Some-Example.kind c.in-Some-Example.size)) asks
+    IsSession-of _ c.args.limit (asked (texts c.args.words.now.items) _ _ _ _ _) _
+    c.example.result _ _ (Some (example c.in-Some-Example.kind c.in-Some-Example.size)) asks
     (c.example.ensures.run c.args.limit _ (g.S.Source.left q) (g.S.Source.faults q)
     (g.S.Source.given q))
 

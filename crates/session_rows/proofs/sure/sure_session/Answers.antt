@@ -1,7 +1,6 @@
 -- No count of these ever rises.
 use Rattle.std.proofs.Common.{◌⊎◌, inl, inr, [], arith, refl}
 use Rattle.nil_io.specs.Causes.{Rose}
-use Rattle.nil_pres.specs.Presented.{Presented}
 use Rattle.query_session.specs.Commands.{run, run_table, check, compile, trees, collect, example, load}
 use Rattle.session_rows.proofs.sure.sure_session.Goals as goal
 
