@@ -45,6 +45,23 @@ pub(crate) fn shelf_of(
     Ok(MemoryShelf::new(files, fail.to_vec(alloc)?))
 }
 
+/// A shelf with a presentation `f` and a table `t`, whose calls with these numbers fail.
+pub(crate) fn shelf_of_both(
+    alloc: Global,
+    pres: &str,
+    table: &str,
+    fail: &[u64],
+) -> Result<MemoryShelf, AllocError> {
+    let mut files = Vec::new(alloc);
+    for (name, text) in [("f", pres), ("t", table)] {
+        files.push((
+            String::from_str(alloc, name)?,
+            text.as_bytes().to_vec(alloc)?,
+        ))?;
+    }
+    Ok(MemoryShelf::new(files, fail.to_vec(alloc)?))
+}
+
 pub(crate) fn source_of(
     alloc: Global,
     queries: &[u8],
@@ -75,16 +92,7 @@ pub(crate) fn by_table(
     queries: &[u8],
 ) -> Result<Ended, AllocError> {
     let words = words_of(alloc, &["run", "f", "t"])?;
-    let mut files = Vec::new(alloc);
-    files.push((
-        String::from_str(alloc, "t")?,
-        table.as_bytes().to_vec(alloc)?,
-    ))?;
-    files.push((
-        String::from_str(alloc, "f")?,
-        pres.as_bytes().to_vec(alloc)?,
-    ))?;
-    let mut shelf = MemoryShelf::new(files, Vec::new(alloc));
+    let mut shelf = shelf_of_both(alloc, pres, table, &[])?;
     let mut source = source_of(alloc, queries, &[])?;
     run_over(alloc, &words, &mut shelf, &mut source, &[])
 }

@@ -10,6 +10,8 @@ mod compiled;
 #[cfg(test)]
 mod examples;
 #[cfg(test)]
+mod faults;
+#[cfg(test)]
 mod files;
 #[cfg(test)]
 mod fixtures;
@@ -18,9 +20,13 @@ mod long;
 #[cfg(test)]
 mod memo;
 #[cfg(test)]
+mod offers;
+#[cfg(test)]
 mod own;
 #[cfg(test)]
 mod pieces;
+#[cfg(test)]
+mod prefixes;
 #[cfg(test)]
 mod proposers;
 #[cfg(test)]

@@ -49,9 +49,9 @@ pub(crate) const FREE_TABLE: &str =
     r#"{"format":"hall table 1","generators":5,"level":1,"polynomials":[[["1","x1",1],["1","y1",1]],[["1","x2",1],["1","y2",1]],[["1","x3",1],["1","y3",1],["1","x2",1,"y1",1]],[["1","x4",1],["1","y4",1],["1","x3",1,"y1",1],["1","x2",1,"y1",2]],[["1","x5",1],["1","y5",1],["1","x3",1,"y2",1],["1","x2",2,"y1",1],["1","x2",1,"y1",1,"y2",1]]]}"#;
 
 /// Two generators that commute, and a table for which a number overflows.
-const PLANE: &str = "nilpotent 1\ngenerators a1 a2\n";
+pub(crate) const PLANE: &str = "nilpotent 1\ngenerators a1 a2\n";
 
-const PLANE_TABLE: &str =
+pub(crate) const PLANE_TABLE: &str =
     r#"{"format":"hall table 1","generators":2,"level":1,"polynomials":[[["1","x1",1],["1","y1",1]],[["1","x2",1],["1","y2",1],["170141183460469231731687303715884105727","x1",1,"y1",2],["170141183460469231731687303715884105727","x1",1,"y1",3]]]}"#;
 
 /// Presentations and tables, and what a session with the query `a2^2*a1^3` writes.
