@@ -14,6 +14,7 @@ use Rattle.nil_word.specs.Exponents.{entry}
 use Rattle.hall_law.specs.Table.{zeros, added, single, exponents, from_entries, IsPresentation, IsTable}
 use Rattle.hall_law.specs.Nucleus.{IsCandidate, DoesStep, KeepsRelations}
 use Rattle.hall_law.proofs.Grading.{IsClosed-from_entries, entry-from_entries}
+use Rattle.hall_law.proofs.Passing.{added_steps}
 use Rattle.hall_law.proofs.Drawing.{drawn_steps, steps_to_table}
 use Rattle.binom_poly.specs.declared.term.Term.{Term}
 use Rattle.binom_poly.specs.Variable.{y_of}
@@ -31,12 +32,13 @@ use Rattle.identity_check.specs.Overflowing.{StepOverflows, StepSidesOverflow, M
 use Rattle.identity_check.specs.Events.{Event, at_each, last_events, signed_events, step_events, relation_events, Stops}
 use Rattle.identity_check.specs.Events.Event.{makes, tries}
 use Rattle.identity_check.specs.Drawing.{AreEnough}
-use Rattle.identity_check.specs.Few.{NoneStops, right_events, all_last_events, all_step_events, all_relation_events, AllStep}
+use Rattle.identity_check.specs.Few.{NoneStops, right_events, all_last_events, all_step_events, all_relation_events, Steps, AllStep}
 use Rattle.identity_check.proofs.Agreeing.{Bounds, bounds_of, IsOf, AgreeOn, point-x, point-y, at-values}
 use Rattle.identity_check.proofs.ByNumber.{IsUnit, unit_up, unit_down}
 use Rattle.identity_check.proofs.UnitConditions.{unit_right, vector_zeros}
 use Rattle.identity_check.proofs.StepConditions.{StepsAlike, steps_made, substituted-left, substituted-right, value-left_step, value-right_step}
 use Rattle.identity_check.proofs.Accepted.{order_up, step_up, pair_multiplies}
+use Rattle.identity_check.proofs.AddedOn.{adds_on}
 use Rattle.identity_check.proofs.Walked.{all_left, all_right, all_flat, each_of, flat_of, of_each, of_flat, sides_equal}
 
 -- ---- few identities make a table
@@ -238,12 +240,12 @@ few_hold rels t b rights lasts relations =
           (flat_of t P (relation_events (xs t) (last_of t)) j relations o) below (omega arith)) q;
     }
 
-does_step : (rels : Relations) (t : Tabled) (ms : List ℕ) (j : ℕ) → IsTabled t → IsOf t j
-    → AllStep rels t ms → Contains ms j → DoesStep (last_of t) t.level (values t) j
-does_step rels t ms j h o all i =
+does_step : (rels : Relations) (t : Tabled) (j : ℕ) → IsTabled t
+    → IsCandidate (last_of t) t.level (values t) → IsOf t j → Steps rels t j
+    → DoesStep (last_of t) t.level (values t) j
+does_step rels t j h c o (inl added) = added_steps c j (adds_on t j h o added)
+does_step rels t j h c o (inr none) =
     let P : Event → Type 0 = λ e. ¬ Stops rels t e in
-    let none : NoneStops rels t (signed_events StepUp (xs t) j) =
-    All-contains (λ (m : ℕ). NoneStops rels t (signed_events StepUp (xs t) m)) ms j all i in
     step_up rels t j h o
     (λ k q. each_of t P (λ m. makes (StepUp j m)) k
     (all_left P (at_each (xs t) (λ m. makes (StepUp j m))) (at_each (xs t) (λ m. tries (StepUp j m))) none) q)
@@ -267,9 +269,11 @@ pub few_follow : (pres : Presented) (t : Tabled) (ms : List ℕ) → IsPresentat
     → NoneStops (relations_of pres) t (all_step_events t)
 few_follow pres t ms p h e w relations =
     let rels = relations_of pres in
+    let few = few_hold rels t (bounds_of t h) w.rights w.lasts relations in
     steps_follow rels t h e w.fits
-    (few_make_table rels t ms p.above h e (few_hold rels t (bounds_of t h) w.rights w.lasts relations)
-    (λ m o i. does_step rels t ms m h o w.steps i) w.enough)
+    (few_make_table rels t ms p.above h e few
+    (λ m o i. does_step rels t m h (candidate rels t h few) o
+    (All-contains (Steps rels t) ms m w.steps i)) w.enough)
 
 pub fits_all : (t : Tabled) (level : ℕ) (ps : List (List Term)) → level ≡ t.level → ps ≡ t.polys
     → FitsAll level ps → FitsAll t.level t.polys

@@ -9,6 +9,7 @@ pub mod OrderConditions
 pub mod StepConditions
 pub mod Walked
 pub mod Accepted
+pub mod AddedOn
 pub mod FewSteps
 pub mod Halting
 pub mod Stretches

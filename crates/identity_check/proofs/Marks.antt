@@ -97,31 +97,52 @@ none_marked : (rels : Relations) (level : ℕ) (ms : List ℕ) (n : ℕ)
 none_marked rels level ms n k i = absurd (false≢true (sym (unmarked n k) ∙ i))
 
 -- ---- generator after generator
-pub record IsWalked (rels : Relations) (level : ℕ) (ms : List ℕ) (marks : List Bool) (k : ℕ)
-    : Type 0 where
+pub record IsStarted (rels : Relations) (level : ℕ) (ms : List ℕ) (marks : List Bool) : Type 0 where
   pub size : length marks ≡ 49
   pub within : AreGenerators level rels.count ms
   pub drawn : AreDrawn rels level ms marks
-  pub before : (m : ℕ) → level ≤ m → m < k → IsDrawn rels level (Contains ms) m
 
-pub walk_begins : (rels : Relations) (level : ℕ) (ms : List ℕ) → ms ≡ []
-    → IsWalked rels level ms (replicate 49 false) level
-walk_begins rels level ms e = record {
+pub walk_starts : (rels : Relations) (level : ℕ) (ms : List ℕ) → ms ≡ []
+    → IsStarted rels level ms (replicate 49 false)
+walk_starts rels level ms e = record {
   size = length-replicate 49 false;
   within = subst (AreGenerators level rels.count) (sym e)
       (All-nil (λ (m : ℕ). (level ≤ m) × (m ≤ rels.count)));
   drawn = none_marked rels level ms 49;
-  before = λ m low below. absurd (omega arith);
 }
+
+pub started_on : (rels : Relations) (level : ℕ) (ms : List ℕ) (marks : List Bool) (k : ℕ)
+    → level ≤ k → k ≤ rels.count → IsStarted rels level ms marks
+    → IsStarted rels level (ms ++ k ∷ []) (slice_set marks k true)
+started_on rels level ms marks k low high s = record {
+  size = length-set marks k true ∙ s.size;
+  within = All-push (λ (m : ℕ). (level ≤ m) × (m ≤ rels.count)) ms k s.within (low, high);
+  drawn = one_more rels level (ms ++ k ∷ []) marks k
+      (λ m i. drawn_after rels level ms k m (s.drawn m i)) (drawn_itself rels level ms k);
+}
+
+pub started_more : (rels : Relations) (level : ℕ) (ms : List ℕ) (marks more : List Bool)
+    → length more ≡ length marks → KeepDrawn rels level marks more → IsStarted rels level ms marks
+    → IsStarted rels level ms more
+started_more rels level ms marks more size keep s =
+    record { size = size ∙ s.size; within = s.within; drawn = keep ms s.drawn }
+
+pub record IsWalked (rels : Relations) (level : ℕ) (ms : List ℕ) (marks : List Bool) (k : ℕ)
+    : Type 0 where
+  pub started : IsStarted rels level ms marks
+  pub before : (m : ℕ) → level ≤ m → m < k → IsDrawn rels level (Contains ms) m
+
+pub walk_begins : (rels : Relations) (level : ℕ) (ms : List ℕ) (marks : List Bool)
+    → IsStarted rels level ms marks → IsWalked rels level ms marks level
+walk_begins rels level ms marks s =
+    record { started = s; before = λ m low below. absurd (omega arith) }
 
 pub passed_by : (rels : Relations) (level : ℕ) (ms : List ℕ) (marks : List Bool) (k : ℕ)
     → IsMarked marks k → IsWalked rels level ms marks k → IsWalked rels level ms marks (k + 1)
 passed_by rels level ms marks k i w = record {
-  size = w.size;
-  within = w.within;
-  drawn = w.drawn;
+  started = w.started;
   before = λ m low below. elim (eqb_tells m k) [
-    | inl same ↦ subst (IsDrawn rels level (Contains ms)) (sym same.1) (w.drawn k i)
+    | inl same ↦ subst (IsDrawn rels level (Contains ms)) (sym same.1) (w.started.drawn k i)
     | inr other ↦ let n : m ≢ k = other.1 in w.before m low (omega arith)
   ];
 }
@@ -130,20 +151,17 @@ pub walked_on : (rels : Relations) (level : ℕ) (ms : List ℕ) (marks more : L
     → level ≤ k → k ≤ rels.count → length more ≡ length (slice_set marks k true)
     → KeepDrawn rels level (slice_set marks k true) more → IsWalked rels level ms marks k
     → IsWalked rels level (ms ++ k ∷ []) more (k + 1)
-walked_on rels level ms marks more k low high size keep w =
-    let itself : IsDrawn rels level (Contains (ms ++ k ∷ [])) k = drawn_itself rels level ms k in
-    record {
-      size = size ∙ length-set marks k true ∙ w.size;
-      within = All-push (λ (m : ℕ). (level ≤ m) × (m ≤ rels.count)) ms k w.within (low, high);
-      drawn = keep (ms ++ k ∷ [])
-          (one_more rels level (ms ++ k ∷ []) marks k
-          (λ m i. drawn_after rels level ms k m (w.drawn m i)) itself);
-      before = λ m a below. elim (eqb_tells m k) [
-        | inl same ↦ subst (IsDrawn rels level (Contains (ms ++ k ∷ []))) (sym same.1) itself
-        | inr other ↦
-            let n : m ≢ k = other.1 in drawn_after rels level ms k m (w.before m a (omega arith))
-      ];
-    }
+walked_on rels level ms marks more k low high size keep w = record {
+  started = started_more rels level (ms ++ k ∷ []) (slice_set marks k true) more size keep
+      (started_on rels level ms marks k low high w.started);
+  before = λ m a below. elim (eqb_tells m k) [
+    | inl same ↦
+        subst (IsDrawn rels level (Contains (ms ++ k ∷ []))) (sym same.1)
+        (drawn_itself rels level ms k)
+    | inr other ↦
+        let n : m ≢ k = other.1 in drawn_after rels level ms k m (w.before m a (omega arith))
+  ];
+}
 
 pub walk_ends : (rels : Relations) (level : ℕ) (ms : List ℕ) (marks : List Bool) (k : ℕ)
     → rels.count < k → IsWalked rels level ms marks k → AreEnough rels level ms

@@ -7,11 +7,12 @@ ghost use Rattle.identity_check.specs.Drawing.{AreEnough, AreGenerators, IsLeft,
 
 use crate::Memory;
 use crate::pairs::exponent_in;
+use hall_table::GENERATOR_LIMIT;
 use nil_pres::{Presentation, Syllable};
 use std::alloc::Global;
 
 /// A mark for each generator, at its number.
-const MARKS: usize = 49;
+const MARKS: usize = GENERATOR_LIMIT + 1;
 
 /// The first generator of a right side that isn't marked.
 fn first_unmarked(right: &[Syllable], marks: &[bool]) -> Option<u32>
@@ -98,9 +99,7 @@ fn draw_below(pres: &Presentation, level: u32, marks: &mut [bool], l: u32) -> bo
 {
     let mut any = false;
     for j in level..l {
-        if draw_pair(pres, level, marks, j, l) {
-            any = true;
-        }
+        any |= draw_pair(pres, level, marks, j, l);
     }
     any
 }
@@ -113,9 +112,7 @@ fn draw(pres: &Presentation, level: u32, marks: &mut [bool]) -> bool
 {
     let mut any = false;
     for l in level..pres.count() + 1 {
-        if draw_below(pres, level, marks, l) {
-            any = true;
-        }
+        any |= draw_below(pres, level, marks, l);
     }
     any
 }
@@ -134,16 +131,27 @@ fn draw_all(pres: &Presentation, level: u32, marks: &mut [bool])
     }
 }
 
-/// The generators whose step identities are tried: from the level on each that isn't drawn from
-/// those before it.
-pub fn walked(alloc: Global, pres: &Presentation, level: u32) -> Result<Vec<u32>, Memory>
-    requires { 1 ≤ level }
+/// The known generators, and from the level on each that isn't drawn from those before it.
+pub fn walked(
+    alloc: Global,
+    pres: &Presentation,
+    level: u32,
+    known: &[u32],
+) -> Result<Vec<u32>, Memory>
+    requires least { 1 ≤ level }
+    requires known { AreGenerators level (length pres.now.names) known.now }
     ensures enough { IfOk result (λ ms. AreEnough (relations_of pres.now) level ms.items) }
     ensures generators { IfOk result (λ ms. AreGenerators level (length pres.now.names) ms.items) }
 {
+    let end = pres.count() + 1;
     let mut marks = [false; MARKS];
     let mut walked = Vec::new(alloc);
-    for k in level..pres.count() + 1 {
+    for m in known {
+        walked.push(*m)?;
+        marks[*m as usize] = true;
+    }
+    draw_all(pres, level, &mut marks);
+    for k in level..end {
         if !marks[k as usize] {
             walked.push(k)?;
             marks[k as usize] = true;

@@ -1,13 +1,16 @@
 //! Whether few of the step identities are enough, so that the others needn't be tried.
 
-ghost use Rattle.std.specs.Prelude.{◌≡◌, ℕ, ℤ, length, unsigned_abs, IfOk, IsTrue, OnOk};
+ghost use Rattle.std.specs.Prelude.{◌≡◌, ◌≤◌, length, IfOk, IsTrue, OnOk};
 ghost use Rattle.nil_word.specs.Congruence.{Relations};
 ghost use Rattle.nil_pres.specs.Relations.{relations_of};
-ghost use Rattle.hall_table.specs.Tabled.{last_of};
+ghost use Rattle.poly_subst.specs.Walk.{in_x};
+ghost use Rattle.hall_table.specs.Tabled.{last_of, poly_at};
+ghost use Rattle.hall_table.specs.Order.{generators};
 ghost use Rattle.identity_check.specs.Drawing.{AreGenerators};
-ghost use Rattle.identity_check.specs.Few.{AllStep, NoneStops, all_last_events, all_relation_events, all_step_events, right_events};
+ghost use Rattle.identity_check.specs.Few.{AllStep, NoneStops, Steps, all_last_events, all_relation_events, all_step_events, right_events};
 
 use crate::Memory;
+use crate::adding::{added_on, is_added_on};
 use crate::drawing::walked;
 use crate::halt::Halt;
 use crate::steps::{put_x, steps};
@@ -15,17 +18,32 @@ use crate::walking::all_relations;
 use hall_table::Table;
 use hall_table::presentations::relations;
 use nil_pres::Presentation;
-use poly_subst::steps_fit;
+use poly_subst::{Substitution, steps_fit};
 use std::alloc::{AllocError, Global};
 
-/// Tries the step identities of some generators, and not those of their inverses.
+/// Tries the step identities of a generator, and not those of its inverse; one that is added on has
+/// no need of them.
+fn step_up(alloc: Global, table: &Table, put: &mut Substitution, j: u32) -> Result<(), Halt>
+    requires least { table.now.level ≤ j }
+    requires most { j ≤ last_of table.now }
+    requires put { put.old ≡ in_x table.now.level (generators table.now) (poly_at table.now) }
+    ensures steps { OnOk result ((rels : Relations) → Steps rels table.now j) }
+    ensures kept { put.new ≡ put.old }
+{
+    if is_added_on(table, j) {
+        return Ok(());
+    }
+    steps(alloc, table, put, j, true)
+}
+
+/// Tries these of some generators.
 fn steps_up(alloc: Global, table: &Table, walked: &[u32]) -> Result<(), Halt>
     requires { AreGenerators table.now.level (last_of table.now) walked.now }
     ensures { OnOk result ((rels : Relations) → AllStep rels table.now walked.now) }
 {
     let mut put = put_x(alloc, table)?;
     for j in walked {
-        steps(alloc, table, &mut put, *j, true)?;
+        step_up(alloc, table, &mut put, *j)?;
     }
     Ok(())
 }
@@ -58,7 +76,8 @@ pub fn few_hold(alloc: Global, pres: &Presentation, table: &Table) -> Result<boo
     if !steps_fit(table.level(), table.lend_all()) {
         return Ok(false);
     }
-    let walked = walked(alloc, pres, table.level())?;
+    let known = added_on(alloc, table)?;
+    let walked = walked(alloc, pres, table.level(), &known)?;
     if !is_through(steps_up(alloc, table, &walked))? {
         return Ok(false);
     }

@@ -1,6 +1,7 @@
 //! Whether a table multiplies in a presentation, by identities between polynomials.
 #![tactic(auto)]
 
+mod adding;
 mod checking;
 mod comparing;
 mod drawing;

@@ -4,7 +4,7 @@ pub loop-j-init : goal.loop-j-init
 loop-j-init c = λ ms h. h
 
 pub loop-j-preserved : goal.loop-j-preserved
-loop-j-preserved c = λ ms h. c.draw_pair.ensures ms (c.loop-j.invariant ms h)
+loop-j-preserved c = λ ms h. c.draw_pair-any.ensures ms (c.loop-j.invariant ms h)
 
 pub returns : goal.returns
 returns c = c.loop-j.invariant
