@@ -1,7 +1,7 @@
 -- A generator that is added on adds on in the table of the values.
 --   t table · k m generators · v variable · a b points · x y vectors · p polynomial
-use Rattle.std.proofs.Common.{◌≡◌, ◌≢◌, ℕ, suc, ◌+◌, ◌-◌, ◌<◌, ◌≤◌, Bool, true, false, List, length, refl, sym, ap, ◌∙◌, subst, arith, inl, inr}
-use Rattle.std.specs.Prelude.{◌==◌, not, All, IsTrue}
+use Rattle.std.proofs.Common.{◌≡◌, ◌≢◌, ℕ, ◌+◌, ◌-◌, ◌<◌, ◌≤◌, true, List, sym, ap, ◌∙◌, subst, arith, inl, inr}
+use Rattle.std.specs.Prelude.{◌==◌, not}
 use Rattle.std.specs.List.{list_all}
 use Rattle.std.proofs.lemmas.Bool.{cases_lt, eq-eqb, false≢true}
 use Rattle.std.proofs.lemmas.Bool.Decides.{eqb_tells}
@@ -20,13 +20,13 @@ use Rattle.binom_poly.specs.declared.part.Part.{Part}
 use Rattle.binom_poly.specs.declared.term.Term.{Term}
 use Rattle.binom_poly.specs.Variable.{y_of}
 use Rattle.binom_poly.specs.Polynomial.{value_of}
-use Rattle.hall_table.specs.Shape.{is_lower, AreLower}
+use Rattle.hall_table.specs.Shape.{is_lower}
 use Rattle.hall_table.specs.Tabled.{Tabled, IsTabled, last_of, poly_at}
 use Rattle.hall_table.specs.Values.{point_of, values}
 use Rattle.hall_table.proofs.Covering.{poly_lower}
 use Rattle.hall_table.proofs.Entries.{IsShaped-values, is_lower-bounds_x, is_lower-bounds_y}
-use Rattle.hall_table.proofs.Putting.{Agree, value-agree}
-use Rattle.identity_check.specs.Adding.{is_free, IsAddedOn}
+use Rattle.hall_table.proofs.Putting.{value-agree}
+use Rattle.identity_check.specs.Adding.{IsAddedOn}
 use Rattle.identity_check.proofs.Agreeing.{Bounds, bounds_of, IsOf, point-x, point-y, at-values, entry_is, same_from}
 
 -- ---- one entry more

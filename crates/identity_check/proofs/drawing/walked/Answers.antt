@@ -1,4 +1,4 @@
-use Rattle.std.proofs.Common.{◌∙◌, ◌+◌, suc, slice_index_or, slice_set, true, ap, sym, subst, arith}
+use Rattle.std.proofs.Common.{◌∙◌, ◌+◌, slice_index_or, slice_set, true, ap, sym, subst, arith}
 use Rattle.nil_pres.specs.Relations.{relations_of}
 use Rattle.identity_check.proofs.Marks.{IsStarted, IsWalked, walk_starts, started_on, started_more, walk_begins, walked_on, passed_by, walk_ends}
 use Rattle.identity_check.proofs.drawing.walked.Goals.{then-not-marks-k+in_ok-push-2, else-not-marks-k}
