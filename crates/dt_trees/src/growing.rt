@@ -34,7 +34,7 @@ fn place_leaf(
     place(alloc, letters, member, 0, stack, ways)
 }
 
-/// Appends the ways to grow by a leaf whose type is from the level on.
+/// Appends the ways to grow by a leaf of a type from the level on.
 pub(crate) fn place_leaves(
     alloc: Global,
     letters: &mut Letters,
@@ -43,15 +43,13 @@ pub(crate) fn place_leaves(
     stack: &[Tree],
     ways: &mut Vec<Grown>,
 ) -> Result<(), Memory>
+    requires least { level ≤ k }
     requires trees { All (IsTreeOf letters.old) stack.now }
     requires small { AreBelow (2 ^ 63) (stack_in letters.old stack.now) }
     ensures kept { IsExtended letters.old letters.new }
     ensures gains { OnOk result (Gains letters.old ways.old.items letters.new ways.new.items
         (leaf_ways level (stack_in letters.old stack.now) k)) }
 {
-    if k < level {
-        return Ok(());
-    }
     place_leaf(alloc, letters, Side::X, k, stack, ways)?;
     place_leaf(alloc, letters, Side::Y, k, stack, ways)
 }
@@ -202,6 +200,10 @@ fn grow(
         (grown (exponents_of letters.old.pres) level k (stack_in letters.old stack.now) k)) }
 {
     let mut ways = Vec::new(alloc);
+    // Nothing grows by such a type, and to try its pairs would take exponential time.
+    if k < level {
+        return Ok(ways);
+    }
     place_leaves(alloc, letters, level, k, stack, &mut ways)?;
     for p in 1..k {
         for q in 1..p {

@@ -10,12 +10,24 @@ use Rattle.dt_letters.proofs.Different.{extended-trans}
 use Rattle.dt_trees.specs.declared.grown.Grown.{Grown}
 use Rattle.dt_trees.specs.Ways.{stack_in, grown_in, IsWay, Gains, AreWays, FitsFor, IsSmall, leaf_ways, rights_of, pair_ways}
 use Rattle.dt_trees.proofs.Depth.{grown-ways}
+use Rattle.dt_trees.proofs.Low.{grown-low}
 use Rattle.dt_trees.proofs.Small.{all_below-more}
 use Rattle.dt_trees.proofs.Stacks.{trees-kept, small-kept}
 use Rattle.dt_trees.proofs.Gaining.{gains-before, gains-same, ways-gained, on_ok}
 use Rattle.dt_trees.proofs.Joining.{way-at, grew-at, gains-each-next}
 use Rattle.dt_trees.proofs.Pairs.{pushed-trees, pushed-stack, rights-small, lefts-small, half-small, rights-same, gains-pair, pair-kept, next-joined, gains-joined}
 use Rattle.dt_trees.proofs.growing.+grow.Goals as goal
+
+pub grow-returns-then-k-level-clause-ways : goal.grow-returns-then-k-level-clause-ways
+grow-returns-then-k-level-clause-ways t c =
+    let a = c.args.letters.now in
+    let none : map (grown_in a) c.new-ways.result.items ≡ [] =
+    ap (map (grown_in a)) c.new-ways.ensures.items in
+    record {
+      ways = subst (All (IsWay a)) (sym c.new-ways.ensures.items) (λ i d h. absurd (omega (arith, h)));
+      are = none ∙ sym (grown-low (exponents_of a.pres) c.args.level c.args.k (stack_in a c.args.stack.now)
+          c.args.k (omega (arith, c.if-k-level.true)));
+    }
 
 pub grow-place_leaves-requires-clause-small : goal.grow-place_leaves-requires-clause-small
 grow-place_leaves-requires-clause-small t c =

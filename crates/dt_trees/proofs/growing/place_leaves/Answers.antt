@@ -1,5 +1,5 @@
 -- The two sides, one after the other.
-use Rattle.std.proofs.Common.{◌^◌, pos}
+use Rattle.std.proofs.Common.{◌^◌, pos, arith}
 use Rattle.dt_letters.specs.declared.side.Side.TheVariants as side
 use Rattle.dt_letters.specs.Letters.{leaves}
 use Rattle.dt_letters.specs.Listing.{places}
@@ -25,6 +25,6 @@ returns-clause-gains c =
     (Gains a c.args.ways.now.items d c.place_leaf-2.new.ways.items
     (leaf_ways c.args.level (stack_in a c.args.stack.now) c.args.k))
     (gains-leaves a b d c.args.ways.now.items c.place_leaf.new.ways.items c.place_leaf-2.new.ways.items
-    c.place_leaf.ensures.kept c.args.level c.args.k c.args.stack.now c.requires.trees c.if-k-level.false
+    c.place_leaf.ensures.kept c.args.level c.args.k c.args.stack.now c.requires.trees (omega (arith, c.requires.least))
     c.in_ok-place_leaf.ensures.gains)
     c.place_leaf-2.ensures.gains
