@@ -105,7 +105,7 @@ step_apart t j k up h o m n d =
     ((substituted-right t j c k h s o n).form) d
 
 -- ---- identities
-sides_apart : (rels : Relations) (t : Tabled) (id : Identity) → IsTabled t → IsIdentityOf t id
+pub sides_apart : (rels : Relations) (t : Tabled) (id : Identity) → IsTabled t → IsIdentityOf t id
     → IsMade t id → left_of t id ≢ right_of rels t id → DifferSomewhere rels t id
 unfolding DifferAt IsIdentityOf IsMade left_of right_of MakingOverflows SidesOverflow
 sides_apart rels t (UnitRight k) h o m d =

@@ -10,6 +10,12 @@ pub mod StepConditions
 pub mod Walked
 pub mod Accepted
 pub mod AddedOn
+pub mod Crossings
+pub mod Vanishing
+pub mod Uncrossed
+pub mod AnyPoint
+pub mod StepsFollow
+pub mod LastFollow
 pub mod FewSteps
 pub mod Halting
 pub mod Stretches

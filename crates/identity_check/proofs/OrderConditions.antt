@@ -35,12 +35,12 @@ vector_single t j c b o =
     (IsAt-single (last_of t) t.level j c (omega arith) low)
 
 -- ---- the variables that are 0
-holds_above : (t : Tabled) (j m : ℕ) → IsOf t m → j < m → holds (cleared t j) m ≡ true
+pub holds_above : (t : Tabled) (j m : ℕ) → IsOf t m → j < m → holds (cleared t j) m ≡ true
 holds_above t j m o l =
     holds-append_left (xs_above t j) (other_ys t j) m
     (holds-numbers (suc j) (suc (last_of t) - suc j) m l (omega (arith, o.high)))
 
-holds_up_to : (t : Tabled) (j m : ℕ) → Bounds t → IsOf t m → m ≤ j → holds (cleared t j) m ≡ false
+pub holds_up_to : (t : Tabled) (j m : ℕ) → Bounds t → IsOf t m → m ≤ j → holds (cleared t j) m ≡ false
 holds_up_to t j m b o l =
     let last : last_of t ≤ 48 = b.last in
     let high : m ≤ last_of t = o.high in
@@ -53,13 +53,13 @@ above_not_y t j m b =
     let last : last_of t ≤ 48 = b.last in
     holds-numbers_outside (suc j) (suc (last_of t) - suc j) (y_of m) (λ k low up e. omega arith)
 
-holds_other_y : (t : Tabled) (j m : ℕ) → Bounds t → IsOf t m → m ≢ j
+pub holds_other_y : (t : Tabled) (j m : ℕ) → Bounds t → IsOf t m → m ≢ j
     → holds (cleared t j) (y_of m) ≡ true
 holds_other_y t j m b o n =
     holds-append_right (xs_above t j) (other_ys t j) (y_of m) (above_not_y t j m b)
     ∙ holds-others j t.level (suc (last_of t) - t.level) m o.low (omega (arith, o.low, o.high)) n
 
-holds_own_y : (t : Tabled) (j : ℕ) → Bounds t → holds (cleared t j) (y_of j) ≡ false
+pub holds_own_y : (t : Tabled) (j : ℕ) → Bounds t → holds (cleared t j) (y_of j) ≡ false
 holds_own_y t j b =
     holds-append_right (xs_above t j) (other_ys t j) (y_of j) (above_not_y t j j b)
     ∙ holds-others_not j t.level (suc (last_of t) - t.level) (y_of j) (λ k n e. n (omega arith))
@@ -119,20 +119,20 @@ last_added_after j k c g n =
     last_added_not_before j k c g
     ∙ ap (λ (b : Bool). cond b (sum_of (var_terms k) (constant_terms c)) []) (ne_eqb k j n)
 
-value-last_added : (j k : ℕ) (c : ℤ) (a : ℕ → ℤ) (x : List ℤ) → 1 ≤ j → 1 ≤ k → j ≤ length x
-    → a k ≡ entry x k → IsZeroAbove j x
+pub value-last_added : (j k : ℕ) (c : ℤ) (a : ℕ → ℤ) (x : List ℤ) → 1 ≤ j → 1 ≤ k → j ≤ length x
+    → (k ≤ j → a k ≡ entry x k) → IsZeroAbove j x
     → value_of a (last_added j c k) ≡ entry (added x j c) k
 unfolding value_of
 value-last_added j k c a x low lower high e z =
     elim (cases_lt k j) [
       | inl l ↦
           ap (value_of a) (last_added_before j k c l)
-          ∙ value-var_terms a k ∙ e
+          ∙ value-var_terms a k ∙ e (omega arith)
           ∙ sym (entry-added_other x j k c low lower (λ d. omega arith))
       | inr g ↦ (elim (eqb_tells k j) [
         | inl same ↦
             ap (value_of a) (last_added_here j k c g same.1) ∙ value-sum_of a (var_terms k) (constant_terms c)
-            ∙ ap (λ y. y +ℤ value_of a (constant_terms c)) (value-var_terms a k ∙ e)
+            ∙ ap (λ y. y +ℤ value_of a (constant_terms c)) (value-var_terms a k ∙ e (omega (arith, same.1)))
             ∙ ap (λ y. entry x k +ℤ y) (value-constant_terms a c)
             ∙ subst (λ (m : ℕ). entry x m +ℤ c ≡ entry (added x j c) m) (sym same.1)
             (sym (entry-added_same x j c low high))
@@ -161,4 +161,4 @@ last_is_added t j c h o u n s x hx z =
     sym ((is_step t k (cleared t j) (y_of j) c h q u (n k q)).value a a (agree_last t j c x b o z))
     ∙ ap (value_of a) (s k q)
     ∙ value-last_added j k c a x (omega arith) (omega (arith, q.low)) (omega (arith, at.size, o.high))
-    (point-x t x e k b q) z)
+    (λ l. point-x t x e k b q) z)

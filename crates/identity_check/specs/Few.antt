@@ -1,6 +1,7 @@
 -- What few of the step identities show of a table.
 --   NoneStops rels t es      none of the events stops
 --   right_events t           the events of a right unit
+--   left_events t            those of a left unit
 --   all_last_events t        those of the generators that come last, and of their inverses
 --   all_step_events t        those of the generators that are multiplied on, and of their inverses
 --   all_relation_events t    those of the relations
@@ -11,7 +12,7 @@ use Rattle.std.specs.Prelude.{◌⊎◌, ℕ, List, All}
 use Rattle.std.specs.List.{flat_map}
 use Rattle.nil_word.specs.Congruence.{Relations}
 use Rattle.hall_table.specs.Tabled.{Tabled, last_of}
-use Rattle.identity_check.specs.declared.identity.Identity.TheVariants.{UnitRight, StepUp}
+use Rattle.identity_check.specs.declared.identity.Identity.TheVariants.{UnitRight, UnitLeft, StepUp}
 use Rattle.identity_check.specs.Sides.{xs}
 use Rattle.identity_check.specs.Events.{Event, at_each, last_events, signed_events, step_events, relation_events, Stops}
 use Rattle.identity_check.specs.Events.Event.{tries}
@@ -22,6 +23,9 @@ NoneStops rels t es = All (λ e. ¬ Stops rels t e) es
 
 abbrev pub right_events : Tabled → List Event
 right_events t = at_each (xs t) (λ k. tries (UnitRight k))
+
+abbrev pub left_events : Tabled → List Event
+left_events t = at_each (xs t) (λ k. tries (UnitLeft k))
 
 abbrev pub all_last_events : Tabled → List Event
 all_last_events t = flat_map (last_events (xs t)) (xs t)

@@ -9,6 +9,7 @@ pub mod Halts
 pub mod Signs
 pub mod Pairs
 pub mod Adding
+pub mod Crossing
 pub mod Drawing
 pub mod Few
 pub mod Verdicts

@@ -1,9 +1,13 @@
 //! The check of a table.
 
 ghost use Rattle.std.specs.Prelude.{◌≡◌, length, IfOk};
+ghost use Rattle.nil_pres.specs.Relations.{relations_of};
 ghost use Rattle.hall_table.specs.Tabled.{last_of};
+ghost use Rattle.identity_check.specs.Events.{events};
+ghost use Rattle.identity_check.specs.Halts.{WalksIn};
 ghost use Rattle.identity_check.specs.Verdicts.{IsVerdict, HasEvidence, IsOnlyAccepted};
 
+use crate::few::few_hold;
 use crate::halt::Halt;
 use crate::laws::{accepted, evidence};
 use crate::verdict::Verdict;
@@ -12,6 +16,19 @@ use hall_table::laws::one_table;
 use hall_table::{Checked, Memory, Table};
 use nil_pres::Presentation;
 use std::alloc::{AllocError, Global};
+
+/// The first event that stops. Where few of the identities show that none does, the others aren't
+/// tried.
+fn first_halt(alloc: Global, pres: &Presentation, table: &Table) -> Result<(), Halt>
+    requires { last_of table.now ≡ length pres.now.names }
+    ensures { WalksIn (relations_of pres.now) table.now
+        (events table.now.level (last_of table.now)) result }
+{
+    if few_hold(alloc, pres, table)? {
+        return Ok(());
+    }
+    walk(alloc, pres, table)
+}
 
 /// Tries the identities of a table in their written order. A table that is accepted multiplies in
 /// the presentation.
@@ -29,7 +46,7 @@ pub fn check(alloc: Global, pres: &Presentation, table: Table) -> Result<Verdict
     one_table();
     let _ = pres.count();
     let _ = table.last();
-    match walk(alloc, pres, &table) {
+    match first_halt(alloc, pres, &table) {
         Ok(()) => {
             let pres = pres.copy(alloc)?;
             Ok(Verdict::Accepted(Checked::new(pres, table)))

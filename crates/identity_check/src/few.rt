@@ -1,4 +1,4 @@
-//! Whether few of the step identities are enough, so that the others needn't be tried.
+//! Whether few of the identities are enough, so that the others needn't be tried.
 
 ghost use Rattle.std.specs.Prelude.{◌≡◌, ◌≤◌, length, IfOk, IsTrue, OnOk};
 ghost use Rattle.nil_word.specs.Congruence.{Relations};
@@ -7,10 +7,12 @@ ghost use Rattle.poly_subst.specs.Walk.{in_x};
 ghost use Rattle.hall_table.specs.Tabled.{last_of, poly_at};
 ghost use Rattle.hall_table.specs.Order.{generators};
 ghost use Rattle.identity_check.specs.Drawing.{AreGenerators};
-ghost use Rattle.identity_check.specs.Few.{AllStep, NoneStops, Steps, all_last_events, all_relation_events, all_step_events, right_events};
+ghost use Rattle.identity_check.specs.Events.{HaveEqualSides};
+ghost use Rattle.identity_check.specs.Few.{AllStep, Steps};
 
 use crate::Memory;
 use crate::adding::{added_on, is_added_on};
+use crate::crossing::all_cross;
 use crate::drawing::walked;
 use crate::halt::Halt;
 use crate::steps::{put_x, steps};
@@ -59,20 +61,18 @@ fn is_through(walk: Result<(), Halt>) -> Result<bool, Memory>
     }
 }
 
-/// Whether few of the step identities, with the relations, show that none of all these stops. The
-/// answer `false` says nothing.
+/// Whether few of the identities show that none of them stops. The answer `false` says nothing.
 pub fn few_hold(alloc: Global, pres: &Presentation, table: &Table) -> Result<bool, Memory>
-    requires names { last_of table.now ≡ length pres.now.names }
-    requires rights { NoneStops (relations_of pres.now) table.now (right_events table.now) }
-    requires lasts { NoneStops (relations_of pres.now) table.now (all_last_events table.now) }
-    ensures steps { IfOk result (λ held. IsTrue held
-        → NoneStops (relations_of pres.now) table.now (all_step_events table.now)) }
-    ensures relations { IfOk result (λ held. IsTrue held
-        → NoneStops (relations_of pres.now) table.now (all_relation_events table.now)) }
+    requires { last_of table.now ≡ length pres.now.names }
+    ensures { IfOk result (λ held. IsTrue held
+        → HaveEqualSides (relations_of pres.now) table.now) }
 {
     relations();
     let _ = pres.count();
     let _ = table.last();
+    if !all_cross(table) {
+        return Ok(false);
+    }
     if !steps_fit(table.level(), table.lend_all()) {
         return Ok(false);
     }

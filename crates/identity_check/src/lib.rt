@@ -4,6 +4,7 @@
 mod adding;
 mod checking;
 mod comparing;
+mod crossing;
 mod drawing;
 mod failure;
 mod few;

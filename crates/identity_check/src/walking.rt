@@ -12,7 +12,6 @@ ghost use Rattle.identity_check.specs.Events.{events, last_events, relation_even
 ghost use Rattle.identity_check.specs.Halts.{Walks, WalksIn};
 ghost use Rattle.identity_check.specs.Pairs.{AreZero};
 
-use crate::few::few_hold;
 use crate::halt::Halt;
 use crate::last_letters::last_letters;
 use crate::pairs::relations;
@@ -114,9 +113,6 @@ pub fn walk(alloc: Global, pres: &Presentation, table: &Table) -> Result<(), Hal
     units_right(alloc, table)?;
     units_left(alloc, table)?;
     all_last(alloc, table)?;
-    if few_hold(alloc, pres, table)? {
-        return Ok(());
-    }
     all_steps(alloc, table)?;
     all_relations(alloc, pres, table)
 }

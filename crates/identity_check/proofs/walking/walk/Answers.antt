@@ -9,7 +9,6 @@ use Rattle.identity_check.specs.Sides.{xs}
 use Rattle.identity_check.specs.Events.{Event, at_each, last_events, step_events, relation_events}
 use Rattle.identity_check.specs.Events.Event.{tries}
 use Rattle.identity_check.proofs.Halting.{halt_sooner, halt_later, later_walk}
-use Rattle.identity_check.proofs.MadeSteps.{both_walked}
 use Rattle.identity_check.proofs.walking.walk.Goals as goal
 
 -- the stretches, and what comes behind each of them
@@ -63,17 +62,6 @@ returns-in_err-all_last c =
     (halt_later rels t (rights t) (behind_rights t) c.in_err-all_last.field-0.0 (c.in_ok-units_right.ensures rels)
     (halt_later rels t (lefts t) (behind_lefts t) c.in_err-all_last.field-0.0 (c.in_ok-units_left.ensures rels)
     (halt_sooner rels t (lasts t) (behind_lasts t) c.in_err-all_last.field-0.0 (c.in_err-all_last.ensures rels))))
-
--- the steps follow from few of them
-pub returns-then-branch : goal.returns-then-branch
-returns-then-branch c =
-    let t = c.args.table.now in
-    let rels = relations_of c.args.pres.now in
-    both_walked rels t (rights t) (behind_rights t) (c.in_ok-units_right.ensures rels)
-    (both_walked rels t (lefts t) (behind_lefts t) (c.in_ok-units_left.ensures rels)
-    (both_walked rels t (lasts t) (behind_lasts t) (c.in_ok-all_last.ensures rels)
-    (both_walked rels t (steps t) (pairs t) (c.in_ok-few_hold.ensures.steps c.if-branch.true)
-    (c.in_ok-few_hold.ensures.relations c.if-branch.true))))
 
 pub returns-in_err-all_steps : goal.returns-in_err-all_steps
 returns-in_err-all_steps c =
