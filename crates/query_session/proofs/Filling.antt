@@ -1,5 +1,5 @@
 -- What a lent memo comes to hold.
-use Rattle.std.proofs.Common.{◌≡◌, ℕ, List, [], Option, Some, None, inl, inr, Result, Ok, Err, IfOk, IfErr, unwrap_or, sym, subst}
+use Rattle.std.proofs.Common.{◌≡◌, ℕ, List, [], Option, Some, None, inl, inr, Result, Ok, Err, IfOk, IfErr, unwrap_or, option_map, sym, subst}
 use Rattle.nil_pres.specs.Presented.{Presented}
 use Rattle.hall_table.specs.Multiplies.{Paired}
 use Rattle.hall_compile.specs.Proposals.{Proposal}
@@ -13,9 +13,10 @@ use Rattle.query_replies.specs.Memoized.{IsKept}
 use Rattle.query_replies.specs.Replies.{reply}
 use Rattle.query_replies.specs.Right.{IsReply}
 use Rattle.query_replies.proofs.Keeping.{IsKept-weaker}
+use Rattle.query_session.specs.declared.command.Command.{Command as Named}
 use Rattle.query_session.specs.declared.refusal.Refusal.{Refusal}
 use Rattle.query_session.specs.Opening.{HasOpened}
-use Rattle.query_session.specs.Commands.{Command, command_of, run, run_table, check, compile, trees, collect, example, load}
+use Rattle.query_session.specs.Commands.{Command, seen, command_of, run, run_table, check, compile, trees, collect, example, load}
 use Rattle.query_session.proofs.Untouched.{IsTaken-untouched}
 use Rattle.query_session.specs.Memos.{IsFilled, IsMemoOver, IsMemoOf, IsMemoAfter}
 
@@ -77,10 +78,19 @@ pub IsMemoAfter-of : (os : Presented → ℕ → List Proposal) (limit : ℕ) (a
 IsMemoAfter-of os limit a f pairs command e h =
     subst (λ (d : Option Command). IsMemoOf os d limit a f pairs) e h
 
--- no pair is there, whatever the words ask for
-pub IsMemoAfter-nothing : (os : Presented → ℕ → List Proposal) (limit : ℕ) (a : Asked) (f : Fed)
-    (pairs : List Kept) → pairs ≡ [] → IsMemoAfter os limit a f pairs
-IsMemoAfter-nothing os limit a f pairs none = of_words (command_of a.words)
+-- it is the memo after this command
+pub IsMemoOf-is : (os : Presented → ℕ → List Proposal) (limit : ℕ) (a : Asked) (f : Fed)
+    (pairs : List Kept) (command named : Option Named) → command ≡ named
+    → IsMemoOf os (option_map seen named) limit a f pairs
+    → IsMemoOf os (option_map seen command) limit a f pairs
+IsMemoOf-is os limit a f pairs command named e h =
+    subst (λ (d : Option Named). IsMemoOf os (option_map seen d) limit a f pairs) (sym e) h
+
+-- no pair is there, whatever the command is
+pub IsMemoOf-nothing : (os : Presented → ℕ → List Proposal) (command : Option Command) (limit : ℕ)
+    (a : Asked) (f : Fed) (pairs : List Kept) → pairs ≡ [] → IsMemoOf os command limit a f pairs
+IsMemoOf-nothing os None limit a f pairs none = none
+IsMemoOf-nothing os (Some command) limit a f pairs none = of_command command
   where
     of_command : (d : Command) → IsMemoOf os (Some d) limit a f pairs
     of_command (run pres) = inl none
@@ -91,7 +101,3 @@ IsMemoAfter-nothing os limit a f pairs none = of_words (command_of a.words)
     of_command (collect pres) = none
     of_command (example kind size) = none
     of_command (load rows count seed) = none
-
-    of_words : (d : Option Command) → IsMemoOf os d limit a f pairs
-    of_words None = none
-    of_words (Some d) = of_command d

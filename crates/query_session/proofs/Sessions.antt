@@ -1,5 +1,5 @@
 -- Sessions of a command that answers lines, and of words that fit no form.
-use Rattle.std.proofs.Common.{◌≡◌, ℕ, ◌+◌, ◌≤◌, ◌⊎◌, inl, inr, List, [], Option, Some, None, Result, Ok, Err, IfOk, IfErr, unwrap_or, refl, sym, subst, arith}
+use Rattle.std.proofs.Common.{◌≡◌, ℕ, ◌+◌, ◌≤◌, ◌⊎◌, inl, inr, List, [], Option, Some, None, Result, Ok, Err, IfOk, IfErr, unwrap_or, option_map, refl, sym, subst, arith}
 use Rattle.nil_pres.specs.Presented.{Presented}
 use Rattle.hall_compile.specs.Proposals.{Proposal}
 use Rattle.session_io.specs.declared.end.End.{End}
@@ -14,6 +14,7 @@ use Rattle.session_io.specs.Stops.{IsFront}
 use Rattle.session_io.proofs.Appending.{Appends-none}
 use Rattle.session_io.proofs.Weakening.{IsAnswered-weaker}
 use Rattle.query_session.specs.declared.usage_kind.UsageKind.TheVariants as reason
+use Rattle.query_session.specs.declared.command.Command.{Command as Named}
 use Rattle.query_session.specs.declared.refusal.Refusal.{Refusal}
 use Rattle.query_session.specs.declared.status.Status.{Status}
 use Rattle.query_session.specs.declared.status.Status.TheVariants as s
@@ -21,8 +22,8 @@ use Rattle.query_session.specs.Statuses.{text_of, outcome_status, Ended}
 use Rattle.query_session.specs.Runs.{IsWhole, before, answered, IsPromise, refusal, answers, nothing, at_line, Wrote, IsRun, IsRunOver}
 use Rattle.query_session.specs.Refusals.{Says}
 use Rattle.query_session.specs.Opening.{HasOpened, HasRefusal}
-use Rattle.query_session.specs.Ends.{IsAnsweredAs, IsRefusedAs, RefusesWith}
-use Rattle.query_session.specs.Commands.{Command, IsUsage, IsSessionOf, IsSession, command_of, run, run_table, check, compile, trees, collect, example, load}
+use Rattle.query_session.specs.Ends.{IsAnsweredAs, IsRefusedAs, EndsAs, RefusesWith}
+use Rattle.query_session.specs.Commands.{Command, seen, IsUsage, IsSessionOf, IsSession, command_of, run, run_table, check, compile, trees, collect, example, load}
 use Rattle.query_session.proofs.Plain.{IsPlain}
 use Rattle.query_session.proofs.Written.{Wrote-ended}
 use Rattle.query_session.proofs.Untouched.{IsTaken-untouched, IsRun-refused}
@@ -113,12 +114,16 @@ module _ (I : Type 0) (opened : List Got → I → Type 0) (R : I → List ℕ �
       (r : Status) where
     pub IsRunOver-result : (found : Result I Refusal) → IfOk found (HasOpened I opened a)
         → IfErr found (HasRefusal refused a)
-        → IfOk found (λ i. IsAnsweredAs (by_reply (reply i)) limit f r o n)
-        → IfErr found (λ d. IsRefusedAs d f r o n)
-        → IsRunOver I opened R refused limit a f r o n
-    IsRunOver-result (Ok i) h k answer none = IsRunOver-answered i (reply i) r h (right i h) answer
-    IsRunOver-result (Err d) h k none said =
-        IsRunOver-refused d r plain k said
+        → EndsAs reply found limit f r o n → IsRunOver I opened R refused limit a f r o n
+    IsRunOver-result (Ok i) h k answer = IsRunOver-answered i (reply i) r h (right i h) answer
+    IsRunOver-result (Err d) h k said = IsRunOver-refused d r plain k said
+
+-- what was found is a replier
+pub EndsAs-Ok : {I : Type 0} (reply : I → List ℕ → List ℕ) (found : Result I Refusal) (i : I)
+    (limit : ℕ) (f : Fed) (status : Status) (o n : Option (List ℕ)) → found ≡ Ok i
+    → IsAnsweredAs (by_reply (reply i)) limit f status o n → EndsAs reply found limit f status o n
+EndsAs-Ok reply found i limit f status o n e h =
+    subst (λ r. EndsAs reply r limit f status o n) (sym e) h
 
 -- a write fault comes from the sink
 module _ (I : Type 0) (refused : Asked → List Got → List (List ℕ) → Status → Type 0) (a : Asked)
@@ -187,6 +192,16 @@ given-bound os (Some command) limit a f status o n h = of_command command h
     of_command (collect pres) k = omega (arith, k.took.given.1, k.took.bound)
     of_command (example kind size) k = omega (arith, k.took.given.1, k.took.bound)
     of_command (load rows count seed) k = omega (arith, k.took.given.1, k.took.bound)
+
+-- it is the session of this command
+pub IsSessionOf-is : (os : Presented → ℕ → List Proposal) (limit : ℕ) (a : Asked) (f : Fed)
+    (status : Status) (o n : Option (List ℕ)) (command named : Option Named) → command ≡ named
+    → IsSessionOf os (option_map seen named) limit a f status o n
+    → IsSessionOf os (option_map seen command) limit a f status o n
+IsSessionOf-is os limit a f status o n command named e h =
+    let S : Option Named → Type 0 =
+    λ d. IsSessionOf os (option_map seen d) limit a f status o n in
+    subst S (sym e) h
 
 -- the words are those of the command
 pub IsSession-of : (os : Presented → ℕ → List Proposal) (limit : ℕ) (a : Asked) (f : Fed)

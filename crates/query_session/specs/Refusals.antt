@@ -1,5 +1,6 @@
 -- What is refused before the output, with its text.
 --   plain status      a status whose text names no generator
+--   text_or own text  the text, or its own where there is none
 --   said r            the bytes that a refusal writes
 --   Says names r      they are the lines of its status over a presentation with these names
 -- r refusal

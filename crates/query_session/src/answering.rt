@@ -1,10 +1,9 @@
 //! Sessions that answer lines.
 
-ghost use Rattle.std.specs.Prelude.{◌≡◌, ◌⊎◌, IfOk, IfErr};
+ghost use Rattle.std.specs.Prelude.{◌≡◌, ◌⊎◌};
 ghost use Rattle.nil_io.specs.Causes.{Rose};
-ghost use Rattle.session_io.specs.Asked.{fed};
-ghost use Rattle.session_io.specs.Answers.{by_reply};
-ghost use Rattle.query_session.specs.Ends.{IsAnsweredAs, IsRefusedAs, RefusesWith};
+ghost use Rattle.query_session.specs.Shown.{fed_of};
+ghost use Rattle.query_session.specs.Ends.{EndsAs, RefusesWith};
 
 use super::refusal::Refusal;
 use super::refusing::{refuse, status_of};
@@ -21,14 +20,9 @@ pub(crate) fn answer_by<T: Replier + Drop, S: Source, K: Sink>(
     limit: u64,
     out: &mut K,
 ) -> Status
-    ensures answered { IfOk opened (λ t. IsAnsweredAs (by_reply (T.reply t)) limit
-        (fed (S.left queries.old) (S.left queries.new) (S.faults queries.old) (S.faults queries.new)
-        (S.given queries.old) (S.given queries.new))
-        result (K.written out.old) (K.written out.new)) }
-    ensures refused { IfErr opened (λ refusal. IsRefusedAs refusal
-        (fed (S.left queries.old) (S.left queries.new) (S.faults queries.old) (S.faults queries.new)
-        (S.given queries.old) (S.given queries.new))
-        result (K.written out.old) (K.written out.new)) }
+    ensures ended { EndsAs T.reply opened limit
+        (fed_of S.left S.faults S.given queries.old queries.new)
+        result (K.written out.old) (K.written out.new) }
     ensures cause { result ≡ Status.WriteFault
         → RefusesWith opened Status.WriteFault ⊎ Rose (K.faults out.old) (K.faults out.new) }
 {

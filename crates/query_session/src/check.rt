@@ -3,7 +3,8 @@
 ghost use Rattle.std.specs.Prelude.{◌≡◌, ◌≤◌, ℕ, List, Option, length, map, string_bytes, IfOk, IfErr};
 ghost use Rattle.hall_compile.specs.Proposals.{proposal};
 ghost use Rattle.nil_io.specs.Causes.{Rose};
-ghost use Rattle.session_io.specs.Asked.{asked, fed};
+ghost use Rattle.session_io.specs.Asked.{fed};
+ghost use Rattle.query_session.specs.Shown.{asked_of};
 ghost use Rattle.query_session.specs.Opening.{HasOpened, HasRefusal};
 ghost use Rattle.query_session.specs.Compiling.{IsRefused};
 ghost use Rattle.query_session.specs.Check.{IsVerdict, IsCheckOf};
@@ -28,8 +29,7 @@ pub(crate) fn check<H: Shelf, K: Sink>(
     requires few { length proposers.items ≤ 64 }
     ensures run { (limit : ℕ) (words : List (List ℕ)) (left : Option (List ℕ)) (faults given : ℕ)
         → IsCheckOf (λ p i. map (λ b. proposal (named b) (gives b p i)) proposers.items) pres.now limit
-        (asked words (H.contents shelf.old)
-        (H.faults shelf.old) (H.faults shelf.new) (H.longs shelf.old) (H.longs shelf.new))
+        (asked_of words H.contents H.faults H.longs shelf.old shelf.new)
         (fed left left faults faults given given)
         result (K.written out.old) (K.written out.new) }
     ensures cause { result ≡ Status.WriteFault → Rose (K.faults out.old) (K.faults out.new) }
@@ -48,13 +48,11 @@ fn verdict<H: Shelf>(
     requires few { length proposers.items ≤ 64 }
     ensures opened { (words : List (List ℕ)) → IfOk result (λ text. HasOpened (List ℕ)
         (IsVerdict (λ p i. map (λ b. proposal (named b) (gives b p i)) proposers.items) pres.now)
-        (asked words (H.contents shelf.old)
-        (H.faults shelf.old) (H.faults shelf.new) (H.longs shelf.old) (H.longs shelf.new))
+        (asked_of words H.contents H.faults H.longs shelf.old shelf.new)
         (string_bytes text)) }
     ensures refused { (words : List (List ℕ)) → IfErr result (HasRefusal
         (IsRefused (λ p i. map (λ b. proposal (named b) (gives b p i)) proposers.items) pres.now)
-        (asked words (H.contents shelf.old)
-        (H.faults shelf.old) (H.faults shelf.new) (H.longs shelf.old) (H.longs shelf.new))) }
+        (asked_of words H.contents H.faults H.longs shelf.old shelf.new)) }
 {
     let compiled = compiled_of(alloc, pres, shelf, proposers)?;
     let text = compiled_text(alloc, &compiled)?;

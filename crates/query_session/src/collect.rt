@@ -3,7 +3,7 @@
 ghost use Rattle.std.specs.Prelude.{◌≡◌, ℕ, List, IfOk, IfErr};
 ghost use Rattle.nil_pres.specs.Presented.{Presented};
 ghost use Rattle.nil_io.specs.Causes.{Rose};
-ghost use Rattle.session_io.specs.Asked.{asked, fed};
+ghost use Rattle.query_session.specs.Shown.{asked_of, fed_of};
 ghost use Rattle.query_session.specs.Opening.{HasOpened, HasRefusal};
 ghost use Rattle.query_session.specs.Presentations.{IsFileRefused};
 ghost use Rattle.query_session.specs.Collect.{IsPresentation, IsCollectOf};
@@ -27,10 +27,8 @@ pub(crate) fn collect<H: Shelf, S: Source, K: Sink>(
     out: &mut K,
 ) -> Status
     ensures run { (words : List (List ℕ)) → IsCollectOf pres.now limit
-        (asked words (H.contents shelf.old)
-        (H.faults shelf.old) (H.faults shelf.new) (H.longs shelf.old) (H.longs shelf.new))
-        (fed (S.left queries.old) (S.left queries.new) (S.faults queries.old) (S.faults queries.new)
-        (S.given queries.old) (S.given queries.new))
+        (asked_of words H.contents H.faults H.longs shelf.old shelf.new)
+        (fed_of S.left S.faults S.given queries.old queries.new)
         result (K.written out.old) (K.written out.new) }
     ensures cause { result ≡ Status.WriteFault → Rose (K.faults out.old) (K.faults out.new) }
 {
@@ -42,11 +40,11 @@ pub(crate) fn collect<H: Shelf, S: Source, K: Sink>(
 /// The collector of a presentation, or what refuses it.
 fn open<H: Shelf>(alloc: Global, pres: &str, shelf: &mut H) -> Result<Collector, Refusal>
     ensures opened { (words : List (List ℕ)) → IfOk result (HasOpened Presented
-        (IsPresentation pres.now) (asked words (H.contents shelf.old)
-        (H.faults shelf.old) (H.faults shelf.new) (H.longs shelf.old) (H.longs shelf.new))) }
+        (IsPresentation pres.now)
+        (asked_of words H.contents H.faults H.longs shelf.old shelf.new)) }
     ensures refused { (words : List (List ℕ)) → IfErr result (HasRefusal
-        (IsFileRefused pres.now) (asked words (H.contents shelf.old)
-        (H.faults shelf.old) (H.faults shelf.new) (H.longs shelf.old) (H.longs shelf.new))) }
+        (IsFileRefused pres.now)
+        (asked_of words H.contents H.faults H.longs shelf.old shelf.new)) }
 {
     let presentation = read_presentation(alloc, pres, shelf)?;
     Ok(Collector::of(presentation))

@@ -6,8 +6,9 @@ ghost use Rattle.hall_compile.specs.Proposals.{proposal};
 ghost use Rattle.table_json.specs.Format.{table_text};
 ghost use Rattle.table_json.specs.Saying.{IsTableText};
 ghost use Rattle.nil_io.specs.Causes.{Rose};
-ghost use Rattle.session_io.specs.Asked.{asked, fed};
+ghost use Rattle.session_io.specs.Asked.{fed};
 ghost use Rattle.session_io.specs.Lines.{as_line};
+ghost use Rattle.query_session.specs.Shown.{asked_of};
 ghost use Rattle.query_session.specs.Opening.{HasOpened, HasRefusal};
 ghost use Rattle.query_session.specs.Compiling.{IsRefused};
 ghost use Rattle.query_session.specs.Compile.{IsTableOf, IsCompileOf};
@@ -33,8 +34,7 @@ pub(crate) fn compile<H: Shelf, K: Sink>(
     requires few { length proposers.items ≤ 64 }
     ensures run { (limit : ℕ) (words : List (List ℕ)) (left : Option (List ℕ)) (faults given : ℕ)
         → IsCompileOf (λ p i. map (λ b. proposal (named b) (gives b p i)) proposers.items) pres.now limit
-        (asked words (H.contents shelf.old)
-        (H.faults shelf.old) (H.faults shelf.new) (H.longs shelf.old) (H.longs shelf.new))
+        (asked_of words H.contents H.faults H.longs shelf.old shelf.new)
         (fed left left faults faults given given)
         result (K.written out.old) (K.written out.new) }
     ensures cause { result ≡ Status.WriteFault → Rose (K.faults out.old) (K.faults out.new) }
@@ -53,13 +53,11 @@ fn table_of<H: Shelf>(
     requires few { length proposers.items ≤ 64 }
     ensures opened { (words : List (List ℕ)) → IfOk result (λ text. HasOpened (List ℕ)
         (IsTableOf (λ p i. map (λ b. proposal (named b) (gives b p i)) proposers.items) pres.now)
-        (asked words (H.contents shelf.old)
-        (H.faults shelf.old) (H.faults shelf.new) (H.longs shelf.old) (H.longs shelf.new))
+        (asked_of words H.contents H.faults H.longs shelf.old shelf.new)
         (string_bytes text)) }
     ensures refused { (words : List (List ℕ)) → IfErr result (HasRefusal
         (IsRefused (λ p i. map (λ b. proposal (named b) (gives b p i)) proposers.items) pres.now)
-        (asked words (H.contents shelf.old)
-        (H.faults shelf.old) (H.faults shelf.new) (H.longs shelf.old) (H.longs shelf.new))) }
+        (asked_of words H.contents H.faults H.longs shelf.old shelf.new)) }
 {
     let compiled = compiled_of(alloc, pres, shelf, proposers)?;
     let text = table_line(alloc, compiled.checked.table())?;

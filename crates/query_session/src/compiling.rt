@@ -3,7 +3,7 @@
 ghost use Rattle.std.specs.Prelude.{◌≡◌, ◌⊎◌, ◌≤◌, ℕ, List, length, map, IfOk, IfErr};
 ghost use Rattle.hall_compile.specs.declared.compiled.Compiled.{Compiled};
 ghost use Rattle.hall_compile.specs.Proposals.{proposal};
-ghost use Rattle.session_io.specs.Asked.{asked};
+ghost use Rattle.query_session.specs.Shown.{asked_of};
 ghost use Rattle.query_session.specs.Compiling.{IsCompiledBy, IsCompiledOf, IsUncompiled, IsRefused};
 ghost use Rattle.query_session.specs.Opening.{HasOpened, HasRefusal};
 ghost use Rattle.query_session.specs.Refusals.{Says};
@@ -28,12 +28,10 @@ pub(crate) fn compiled_of<H: Shelf>(
     requires few { length proposers.items ≤ 64 }
     ensures opened { (words : List (List ℕ)) → IfOk result (HasOpened Compiled
         (IsCompiledOf (λ p i. map (λ b. proposal (named b) (gives b p i)) proposers.items) pres.now)
-        (asked words (H.contents shelf.old)
-        (H.faults shelf.old) (H.faults shelf.new) (H.longs shelf.old) (H.longs shelf.new))) }
+        (asked_of words H.contents H.faults H.longs shelf.old shelf.new)) }
     ensures refused { (words : List (List ℕ)) → IfErr result (HasRefusal
         (IsRefused (λ p i. map (λ b. proposal (named b) (gives b p i)) proposers.items) pres.now)
-        (asked words (H.contents shelf.old)
-        (H.faults shelf.old) (H.faults shelf.new) (H.longs shelf.old) (H.longs shelf.new))) }
+        (asked_of words H.contents H.faults H.longs shelf.old shelf.new)) }
 {
     let pres = read_presentation(alloc, pres, shelf)?;
     compiled(alloc, &pres, proposers)

@@ -1,7 +1,7 @@
 //! The presentation file of a command.
 
 ghost use Rattle.std.specs.Prelude.{◌≡◌, ◌≤◌, ℕ, List, IfOk, IfErr};
-ghost use Rattle.session_io.specs.Asked.{asked};
+ghost use Rattle.query_session.specs.Shown.{asked_of};
 ghost use Rattle.query_session.specs.Opening.{HasRefused};
 ghost use Rattle.query_session.specs.Presentations.{HasPresentation, IsFileRefused};
 
@@ -17,12 +17,10 @@ pub(crate) fn read_presentation<H: Shelf>(
     name: &str,
     shelf: &mut H,
 ) -> Result<Presentation, Status>
-    ensures read { (words : List (List ℕ)) → IfOk result (HasPresentation name.now (asked words
-        (H.contents shelf.old) (H.faults shelf.old) (H.faults shelf.new)
-        (H.longs shelf.old) (H.longs shelf.new))) }
+    ensures read { (words : List (List ℕ)) → IfOk result (HasPresentation name.now
+        (asked_of words H.contents H.faults H.longs shelf.old shelf.new)) }
     ensures refused { (words : List (List ℕ)) → IfErr result (HasRefused (IsFileRefused name.now)
-        (asked words (H.contents shelf.old) (H.faults shelf.old) (H.faults shelf.new)
-        (H.longs shelf.old) (H.longs shelf.new))) }
+        (asked_of words H.contents H.faults H.longs shelf.old shelf.new)) }
     ensures same { (n : List ℕ) → H.contents shelf.new n ≡ H.contents shelf.old n }
     ensures later { (n : List ℕ) → H.faults shelf.old n ≤ H.faults shelf.new n }
     ensures later_long { (n : List ℕ) (l : ℕ) → H.longs shelf.old n l ≤ H.longs shelf.new n l }

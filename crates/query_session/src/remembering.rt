@@ -3,12 +3,12 @@
 ghost use Rattle.std.specs.Prelude.{◌≡◌, ◌⊎◌, [], IfOk, IfErr};
 ghost use Rattle.nil_io.specs.Causes.{Rose};
 ghost use Rattle.reply_memo.specs.Kept.{AllKept};
-ghost use Rattle.session_io.specs.Asked.{fed};
 ghost use Rattle.session_io.specs.Answers.{by_reply};
 ghost use Rattle.session_io.specs.Recalling.{IsRecalled};
 ghost use Rattle.query_replies.specs.Memoized.{IsKept};
 ghost use Rattle.query_replies.specs.Replies.{reply};
-ghost use Rattle.query_session.specs.Ends.{IsAnsweredAs, IsRefusedAs, RefusesWith};
+ghost use Rattle.query_session.specs.Shown.{fed_of};
+ghost use Rattle.query_session.specs.Ends.{EndsAs, RefusesWith};
 
 use super::refusal::Refusal;
 use super::refusing::{refuse, status_of};
@@ -31,20 +31,14 @@ pub(crate) fn answer_from_memo<S: Source, K: Sink>(
     out: &mut K,
 ) -> Status
     requires empty { memo.old ≡ [] }
-    ensures answered { IfOk opened (λ c. IsAnsweredAs (by_reply (reply c)) limit
-        (fed (S.left queries.old) (S.left queries.new) (S.faults queries.old) (S.faults queries.new)
-        (S.given queries.old) (S.given queries.new))
-        result (K.written out.old) (K.written out.new)) }
-    ensures refused { IfErr opened (λ refusal. IsRefusedAs refusal
-        (fed (S.left queries.old) (S.left queries.new) (S.faults queries.old) (S.faults queries.new)
-        (S.given queries.old) (S.given queries.new))
-        result (K.written out.old) (K.written out.new)) }
+    ensures ended { EndsAs reply opened limit
+        (fed_of S.left S.faults S.given queries.old queries.new)
+        result (K.written out.old) (K.written out.new) }
     ensures cause { result ≡ Status.WriteFault
         → RefusesWith opened Status.WriteFault ⊎ Rose (K.faults out.old) (K.faults out.new) }
     ensures kept { IfOk opened (λ c. IsRecalled
         (λ lines. AllKept (IsKept (by_reply (reply c)) lines) memo.new) limit
-        (fed (S.left queries.old) (S.left queries.new) (S.faults queries.old) (S.faults queries.new)
-        (S.given queries.old) (S.given queries.new))) }
+        (fed_of S.left S.faults S.given queries.old queries.new)) }
     ensures unused { IfErr opened (λ _. memo.new ≡ []) }
 {
     match opened {

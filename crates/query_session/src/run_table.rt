@@ -5,7 +5,7 @@ ghost use Rattle.nil_word.specs.Congruence.{IsConsistent};
 ghost use Rattle.nil_pres.specs.Relations.{relations_of};
 ghost use Rattle.hall_table.specs.Multiplies.{Paired};
 ghost use Rattle.nil_io.specs.Causes.{Rose};
-ghost use Rattle.session_io.specs.Asked.{asked, fed};
+ghost use Rattle.query_session.specs.Shown.{asked_of, fed_of};
 ghost use Rattle.query_session.specs.Opening.{HasOpened, HasRefused, HasRefusal};
 ghost use Rattle.query_session.specs.Memos.{IsMemoOver};
 ghost use Rattle.query_session.specs.RunTable.{IsAccepted, IsOpened, IsRefused, IsRunTableOf, IsTableRefused};
@@ -39,16 +39,12 @@ pub(crate) fn run_table<H: Shelf, S: Source, K: Sink>(
 ) -> Status
     requires empty { memo.old ≡ [] }
     ensures run { (words : List (List ℕ)) → IsRunTableOf pres.now table.now limit
-        (asked words (H.contents shelf.old)
-        (H.faults shelf.old) (H.faults shelf.new) (H.longs shelf.old) (H.longs shelf.new))
-        (fed (S.left queries.old) (S.left queries.new) (S.faults queries.old) (S.faults queries.new)
-        (S.given queries.old) (S.given queries.new))
+        (asked_of words H.contents H.faults H.longs shelf.old shelf.new)
+        (fed_of S.left S.faults S.given queries.old queries.new)
         result (K.written out.old) (K.written out.new) }
-    ensures memo { (words : List (List ℕ)) → IsMemoOver (IsOpened pres.now table.now)
-        limit (asked words (H.contents shelf.old)
-        (H.faults shelf.old) (H.faults shelf.new) (H.longs shelf.old) (H.longs shelf.new))
-        (fed (S.left queries.old) (S.left queries.new) (S.faults queries.old) (S.faults queries.new)
-        (S.given queries.old) (S.given queries.new)) memo.new }
+    ensures memo { (words : List (List ℕ)) → IsMemoOver (IsOpened pres.now table.now) limit
+        (asked_of words H.contents H.faults H.longs shelf.old shelf.new)
+        (fed_of S.left S.faults S.given queries.old queries.new) memo.new }
     ensures cause { result ≡ Status.WriteFault → Rose (K.faults out.old) (K.faults out.new) }
 {
     right_replies();
@@ -64,11 +60,11 @@ fn open<H: Shelf>(
     shelf: &mut H,
 ) -> Result<Calculator, Refusal>
     ensures opened { (words : List (List ℕ)) → IfOk result
-        (HasOpened Paired (IsOpened pres.now table.now) (asked words (H.contents shelf.old)
-        (H.faults shelf.old) (H.faults shelf.new) (H.longs shelf.old) (H.longs shelf.new))) }
+        (HasOpened Paired (IsOpened pres.now table.now)
+        (asked_of words H.contents H.faults H.longs shelf.old shelf.new)) }
     ensures refused { (words : List (List ℕ)) → IfErr result
-        (HasRefusal (IsRefused pres.now table.now) (asked words (H.contents shelf.old)
-        (H.faults shelf.old) (H.faults shelf.new) (H.longs shelf.old) (H.longs shelf.new))) }
+        (HasRefusal (IsRefused pres.now table.now)
+        (asked_of words H.contents H.faults H.longs shelf.old shelf.new)) }
 {
     let calculator = calculator_of(alloc, pres, table, shelf)?;
     Ok(calculator)
@@ -82,11 +78,11 @@ fn calculator_of<H: Shelf>(
     shelf: &mut H,
 ) -> Result<Calculator, Status>
     ensures opened { (words : List (List ℕ)) → IfOk result
-        (HasOpened Paired (IsOpened pres.now table.now) (asked words (H.contents shelf.old)
-        (H.faults shelf.old) (H.faults shelf.new) (H.longs shelf.old) (H.longs shelf.new))) }
+        (HasOpened Paired (IsOpened pres.now table.now)
+        (asked_of words H.contents H.faults H.longs shelf.old shelf.new)) }
     ensures refused { (words : List (List ℕ)) → IfErr result
-        (HasRefused (IsRefused pres.now table.now) (asked words (H.contents shelf.old)
-        (H.faults shelf.old) (H.faults shelf.new) (H.longs shelf.old) (H.longs shelf.new))) }
+        (HasRefused (IsRefused pres.now table.now)
+        (asked_of words H.contents H.faults H.longs shelf.old shelf.new)) }
 {
     let pres = read_presentation(alloc, pres, shelf)?;
     let text = shelf.read(alloc, table, TABLE_LIMIT)?;

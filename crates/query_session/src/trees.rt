@@ -4,7 +4,8 @@ ghost use Rattle.std.specs.Prelude.{◌≡◌, ◌⊎◌, ◌≤◌, ℕ, List, 
 ghost use Rattle.hall_compile.specs.declared.wide_place.WidePlace.TheVariants as place;
 ghost use Rattle.tree_text.specs.Lines.{PolyOverflows, IsTreesText};
 ghost use Rattle.nil_io.specs.Causes.{Rose};
-ghost use Rattle.session_io.specs.Asked.{asked, fed};
+ghost use Rattle.session_io.specs.Asked.{fed};
+ghost use Rattle.query_session.specs.Shown.{asked_of};
 ghost use Rattle.query_session.specs.Opening.{HasOpened, HasRefusal};
 ghost use Rattle.query_session.specs.Refusals.{Says};
 ghost use Rattle.query_session.specs.Trees.{number_in, AreTrees, IsRefused, IsTreesOf};
@@ -31,8 +32,7 @@ pub(crate) fn trees<H: Shelf, K: Sink>(
 ) -> Status
     ensures run { (limit : ℕ) (words : List (List ℕ)) (left : Option (List ℕ)) (faults given : ℕ)
         → IsTreesOf pres.now name.now limit
-        (asked words (H.contents shelf.old)
-        (H.faults shelf.old) (H.faults shelf.new) (H.longs shelf.old) (H.longs shelf.new))
+        (asked_of words H.contents H.faults H.longs shelf.old shelf.new)
         (fed left left faults faults given given)
         result (K.written out.old) (K.written out.new) }
     ensures cause { result ≡ Status.WriteFault → Rose (K.faults out.old) (K.faults out.new) }
@@ -49,12 +49,12 @@ fn text_of<H: Shelf>(
     shelf: &mut H,
 ) -> Result<String, Refusal>
     ensures opened { (words : List (List ℕ)) → IfOk result (λ text. HasOpened (List ℕ)
-        (AreTrees pres.now name.now) (asked words (H.contents shelf.old)
-        (H.faults shelf.old) (H.faults shelf.new) (H.longs shelf.old) (H.longs shelf.new))
+        (AreTrees pres.now name.now)
+        (asked_of words H.contents H.faults H.longs shelf.old shelf.new)
         (string_bytes text)) }
     ensures refused { (words : List (List ℕ)) → IfErr result (HasRefusal
-        (IsRefused pres.now name.now) (asked words (H.contents shelf.old)
-        (H.faults shelf.old) (H.faults shelf.new) (H.longs shelf.old) (H.longs shelf.new))) }
+        (IsRefused pres.now name.now)
+        (asked_of words H.contents H.faults H.longs shelf.old shelf.new)) }
 {
     let presentation = read_presentation(alloc, pres, shelf)?;
     named(alloc, &presentation, name)

@@ -4,28 +4,19 @@ ghost use Rattle.std.specs.Prelude.{◌≡◌, ◌⊎◌, ◌+◌, ◌≤◌, �
 ghost use Rattle.nil_pres.specs.Presented.{Presented};
 ghost use Rattle.hall_compile.specs.Proposals.{proposal};
 ghost use Rattle.nil_io.specs.Causes.{Rose};
-ghost use Rattle.session_io.specs.Asked.{texts, asked, fed};
+ghost use Rattle.session_io.specs.Asked.{texts};
 ghost use Rattle.session_io.specs.Taking.{piece};
+ghost use Rattle.query_session.specs.Shown.{asked_of, fed_of};
 ghost use Rattle.query_session.specs.Limits.{query_limit};
 ghost use Rattle.query_replies.specs.EqualReplies.{EqualRepliesMeanEqualWords};
 ghost use Rattle.query_session.specs.Commands.{IsSession};
 ghost use Rattle.query_session.specs.Memos.{IsMemoAfter};
 ghost use Rattle.query_session.specs.Smooth.{IsSmooth};
 
-use super::check::check;
-use super::collect::collect;
-use super::command::{Command, command_of};
-use super::compile::compile;
-use super::example::example;
+use super::command::command_of;
 use super::laws::complete_runs;
-use super::load::load;
-use super::refusal::Refusal;
-use super::refusing::refuse;
-use super::run::run;
-use super::run_table::run_table;
+use super::performing::perform;
 use super::status::Status;
-use super::trees::trees;
-use super::usage_kind::UsageKind;
 use super::words::Words;
 use nil_io::{Shelf, Sink, Source};
 use nil_propose::Proposer;
@@ -51,10 +42,8 @@ pub fn session_within<H: Shelf, S: Source, K: Sink>(
     requires empty { memo.old ≡ [] }
     ensures run { IsSession
         (λ p i. map (λ b. proposal (named b) (gives b p i)) proposers.items) limit
-        (asked (texts words.now.items) (H.contents shelf.old)
-        (H.faults shelf.old) (H.faults shelf.new) (H.longs shelf.old) (H.longs shelf.new))
-        (fed (S.left queries.old) (S.left queries.new) (S.faults queries.old) (S.faults queries.new)
-        (S.given queries.old) (S.given queries.new))
+        (asked_of (texts words.now.items) H.contents H.faults H.longs shelf.old shelf.new)
+        (fed_of S.left S.faults S.given queries.old queries.new)
         result (K.written out.old) (K.written out.new) }
     // Two lines that ask for elements, neither of them wide, get equal replies exactly if the
     // relations make their words equal.
@@ -63,45 +52,19 @@ pub fn session_within<H: Shelf, S: Source, K: Sink>(
     // that compiles, and no fault, the session ends well.
     ensures complete { (p : Presented)
         → IsSmooth (λ p i. map (λ b. proposal (named b) (gives b p i)) proposers.items) limit
-        (asked (texts words.now.items) (H.contents shelf.old)
-        (H.faults shelf.old) (H.faults shelf.new) (H.longs shelf.old) (H.longs shelf.new))
-        (fed (S.left queries.old) (S.left queries.new) (S.faults queries.old) (S.faults queries.new)
-        (S.given queries.old) (S.given queries.new)) p
+        (asked_of (texts words.now.items) H.contents H.faults H.longs shelf.old shelf.new)
+        (fed_of S.left S.faults S.given queries.old queries.new) p
         → (Rose (K.faults out.old) (K.faults out.new) → ⊥)
         → (result ≡ Status.Done) ⊎ (result ≡ Status.Memory) }
     ensures bound { S.given queries.new ≤ S.given queries.old + (limit + piece) }
     ensures memo { IsMemoAfter
         (λ p i. map (λ b. proposal (named b) (gives b p i)) proposers.items) limit
-        (asked (texts words.now.items) (H.contents shelf.old)
-        (H.faults shelf.old) (H.faults shelf.new) (H.longs shelf.old) (H.longs shelf.new))
-        (fed (S.left queries.old) (S.left queries.new) (S.faults queries.old) (S.faults queries.new)
-        (S.given queries.old) (S.given queries.new)) memo.new }
+        (asked_of (texts words.now.items) H.contents H.faults H.longs shelf.old shelf.new)
+        (fed_of S.left S.faults S.given queries.old queries.new) memo.new }
     ensures write_fault { result ≡ Status.WriteFault → Rose (K.faults out.old) (K.faults out.new) }
 {
     complete_runs();
     equal_replies();
-    match command_of(words) {
-        Some(Command::Run { pres }) => {
-            run(alloc, pres, shelf, queries, limit, memo, out, proposers)
-        }
-        Some(Command::RunTable { pres, table }) => {
-            run_table(alloc, pres, table, shelf, queries, limit, memo, out)
-        }
-        Some(Command::Check { pres }) => check(alloc, pres, shelf, out, proposers),
-        Some(Command::Compile { pres }) => compile(alloc, pres, shelf, out, proposers),
-        Some(Command::Trees { pres, name }) => trees(alloc, pres, name, shelf, out),
-        Some(Command::Collect { pres }) => collect(alloc, pres, shelf, queries, limit, out),
-        Some(Command::Example { kind, size }) => example(alloc, kind, size, out),
-        Some(Command::Load { rows, count, seed }) => {
-            load(alloc, rows, count, seed, out, proposers)
-        }
-        None => refuse(
-            alloc,
-            out,
-            Refusal {
-                status: Status::Usage(UsageKind::Words),
-                text: None,
-            },
-        ),
-    }
+    let command = command_of(words);
+    perform(alloc, command, shelf, queries, out, proposers, limit, memo)
 }

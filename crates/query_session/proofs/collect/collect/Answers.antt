@@ -15,7 +15,7 @@ returns-clause-run g c =
     (IsFileRefused c.args.pres.now) c.args.limit _ _ _ _ (file_plain c.args.pres.now _) reply
     (λ p h line. c.collected_replies.ensures p line h.is.is_file.lawful)
     _ c.open-opened.result (c.open-opened.ensures.opened words) (c.open-opened.ensures.refused words)
-    c.answer_by.ensures.answered c.answer_by.ensures.refused
+    c.answer_by.ensures.ended
 
 pub returns-clause-cause : goal.returns-clause-cause
 returns-clause-cause g c =

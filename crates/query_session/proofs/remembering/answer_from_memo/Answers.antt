@@ -7,12 +7,13 @@ use Rattle.query_replies.specs.Memoized.{Memoized, AreOf, AsksOneOf}
 use Rattle.query_replies.specs.Replies.{reply}
 use Rattle.query_replies.proofs.Keeping.{IsRecalled-kept}
 use Rattle.query_session.proofs.Filling.{IfOk-is, IsRecalled-nothing}
+use Rattle.query_session.proofs.Sessions.{EndsAs-Ok}
 use Rattle.query_session.proofs.remembering.answer_from_memo.Goals as goal
 
-pub returns-in_default-clause-answered : goal.returns-in_default-clause-answered
-returns-in_default-clause-answered g c =
+pub returns-in_default-clause-ended : goal.returns-in_default-clause-ended
+returns-in_default-clause-ended g c =
     let q = c.args.queries.now in
-    IfOk-is _ c.args.opened c.in-Ok.calculator c.in-Ok.is (record {
+    EndsAs-Ok reply c.args.opened c.in-Ok.calculator c.args.limit _ _ _ _ c.in-Ok.is (record {
       outcome = Err stop.Memory;
       is = refl;
       answered =

@@ -17,7 +17,7 @@ returns-clause-run g c =
     (λ d h line. IsReply-opened c.right_replies.ensures _ c.args.pres.now _ d h line)
     _ c.open-opened.result (c.open-opened.ensures.opened words)
     (c.open-opened.ensures.refused words)
-    c.answer_from_memo.ensures.answered c.answer_from_memo.ensures.refused
+    c.answer_from_memo.ensures.ended
 
 pub returns-clause-cause : goal.returns-clause-cause
 returns-clause-cause g c =

@@ -18,7 +18,7 @@ returns-clause-run g c =
     h.is.accepted.says.says.table h.is.accepted.multiplies h.is.accepted.says.says.level)
     _ c.open-opened.result (c.open-opened.ensures.opened words)
     (c.open-opened.ensures.refused words)
-    c.answer_from_memo.ensures.answered c.answer_from_memo.ensures.refused
+    c.answer_from_memo.ensures.ended
 
 pub returns-clause-cause : goal.returns-clause-cause
 returns-clause-cause g c =
