@@ -1,7 +1,7 @@
 use Rattle.std.proofs.Common.{arith, rules, FitsSigned}
 use Rattle.std.specs.Int.{w128}
 use Rattle.std.proofs.lemmas.Int.{to_z-of_z}
-use Rattle.nested_poly.proofs.Behind.{no_tails, tails_more}
+use Rattle.nested_poly.proofs.Wholes.{no_tails, tails_more}
 use Rattle.nested_poly.proofs.tails.tails_of.Goals as goal
 
 pub loop-term-init : goal.loop-term-init

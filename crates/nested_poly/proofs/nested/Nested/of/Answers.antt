@@ -3,7 +3,7 @@ use Rattle.std.specs.Int.{w128}
 use Rattle.std.proofs.lemmas.Int.{to_z-of_z}
 use Rattle.nested_poly.specs.Nodes.{constant_term, IsNestOf}
 use Rattle.nested_poly.specs.Tails.{tail_terms}
-use Rattle.nested_poly.proofs.Behind.{nested_whole}
+use Rattle.nested_poly.proofs.Wholes.{nested_whole}
 use Rattle.nested_poly.proofs.nested.Nested.of.Goals as goal
 
 pub returns : goal.returns
