@@ -6,3 +6,5 @@ pub mod Adding
 pub mod Splitting
 pub mod Behind
 pub mod Wholes
+pub mod Runs
+pub mod Sorted

@@ -106,12 +106,12 @@ nest_constant c ts us h = record {
   covers = λ rows k. (tt, h.covers rows k.1);
 }
 
-pub nested_whole : (c : ℤ) (none ns : List Node) (ts : List Tail) (us p : List Term) → none ≡ [] → Nests none ns ts → tail_terms ts ≡ us → IsNestOf (constant_term c ∷ us) p → IsForest ns × IsNestOf (constant_term c ∷ terms_of ns) p
+pub nested_whole : (c : ℤ) (none ns : List Node) (ts : List Tail) (us p : List Term) → none ≡ [] → Nests none ns ts → IsNestOf (tail_terms ts) us → IsNestOf (constant_term c ∷ us) p → IsForest ns × IsNestOf (constant_term c ∷ terms_of ns) p
 nested_whole c none ns ts us p e h f k =
     let n : ns ≡ h.added = h.behind ∙ ap (λ xs. xs ++ h.added) e in (
       subst IsForest (sym n) h.form,
       nest_trans (constant_term c ∷ terms_of ns) (constant_term c ∷ us) p
-          (nest_constant c (terms_of ns) us (subst (λ xs. IsNestOf (terms_of xs) us) (sym n) (subst (IsNestOf (terms_of h.added)) f h.nest))) k,
+          (nest_constant c (terms_of ns) us (subst (λ xs. IsNestOf (terms_of xs) us) (sym n) (nest_trans (terms_of h.added) (tail_terms ts) us h.nest f))) k,
     )
 
 value_whole : (a : ℕ → ℤ) (c : ℤ) (ts : List Term) → value_of a (constant_term c ∷ ts) ≡ value_of a ts +ℤ c
