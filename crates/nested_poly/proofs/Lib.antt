@@ -1,3 +1,10 @@
 pub mod Branching
+pub mod Summing
+pub mod Joining
+pub mod Ending
+pub mod Adding
 pub mod Splitting
 pub mod Behind
+pub mod Wholes
+pub mod Runs
+pub mod Sorted

@@ -1,4 +1,4 @@
--- Terms that begin with one part, and the others.
+-- Terms that end with one part, and the others.
 --   terms_by p c bs os    the term c p, the tails bs below the part p, and the tails os
 --   split_terms s         the terms of a split
 --   parts_left s          how many parts its tails have
@@ -7,7 +7,6 @@
 --   IsSplitOf s ts        s has the terms of ts, and fewer parts are left in it
 -- p part · c coefficient · bs os ts tails · s old new splits · t tail
 use Rattle.std.specs.Prelude.{◌≡◌, ◌≤◌, ℕ, ◌+◌, ◌<◌, List, [], ◌∷◌, ◌++◌, ℤ, pos, ◌+ℤ◌, length, All}
-use Rattle.std.proofs.Common.{get_or}
 use Rattle.binom_poly.specs.declared.term.Term.{Term}
 use Rattle.binom_poly.specs.declared.part.Part.{Part}
 use Rattle.binom_poly.specs.Polynomial.{value_of}
@@ -16,7 +15,7 @@ use Rattle.binom_poly.specs.Readings.{width_at, magnitude_of, IsCovered}
 use Rattle.nested_poly.specs.declared.split.Split.{Split}
 use Rattle.nested_poly.specs.declared.tail.Tail.{Tail}
 use Rattle.nested_poly.specs.Nodes.{branch_terms, IsNestOf}
-use Rattle.nested_poly.specs.Tails.{tail_terms, parts_in, HasPart}
+use Rattle.nested_poly.specs.Tails.{last_part, tail_terms, parts_in, HasPart}
 
 abbrev pub terms_by : Part → ℤ → List Tail → List Tail → List Term
 terms_by p c bs os =
@@ -43,7 +42,7 @@ pub record Adds (old new : Split) (t : Tail) : Type 0 where
       → IsCovered rows (split_terms new)
   pub form : HavePartsLeft old → HavePartsLeft new
   pub parts : parts_left new ≤ parts_left old + length t.parts.now
-  pub fewer : old.coefficient ≡ pos 0 → get_or t.parts.now 0 old.part ≡ old.part
+  pub fewer : old.coefficient ≡ pos 0 → last_part t.parts.now old.part ≡ old.part
       → parts_left new + 1 ≤ parts_left old + length t.parts.now
 
 pub record IsSplitOf (s : Split) (ts : List Tail) : Type 0 where

@@ -1,15 +1,21 @@
 -- What terms have below some parts, and their nodes.
+--   last_part ms d        the last of the parts ms, and d where there is none
 --   tail_terms ts         the terms that the tails are
 --   parts_in ts           how many parts they have together
 --   HasPart t             t has a part
 --   Nests old new ts      new is old with the nodes of the tails behind
 --   HaveParts ts          no term of ts is constant
--- t tail · ts tails or terms · old new nodes
-use Rattle.std.specs.Prelude.{◌≡◌, ℕ, ◌+◌, ◌<◌, List, [], ◌∷◌, ◌++◌, length}
+-- ms parts · t tail · ts tails or terms · old new nodes
+use Rattle.std.specs.Prelude.{◌≡◌, ℕ, ◌+◌, ◌-◌, ◌<◌, List, [], ◌∷◌, ◌++◌, length}
+use Rattle.std.proofs.Common.{get_or}
+use Rattle.binom_poly.specs.declared.part.Part.{Part}
 use Rattle.binom_poly.specs.declared.term.Term.{Term}
 use Rattle.nested_poly.specs.declared.node.Node.{Node}
 use Rattle.nested_poly.specs.declared.tail.Tail.{Tail}
 use Rattle.nested_poly.specs.Nodes.{terms_of, IsForest, IsNestOf}
+
+abbrev pub last_part : List Part → Part → Part
+last_part ms d = get_or ms (length ms - 1) d
 
 unfoldable pub tail_terms : List Tail → List Term
 tail_terms [] = []

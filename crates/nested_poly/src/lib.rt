@@ -1,4 +1,4 @@
-//! Polynomials as trees by their variables, for evaluation: terms that begin with the same parts
+//! Polynomials as trees by their variables, for evaluation: terms that end with the same parts
 //! share their product, and what a zero factor leads to isn't looked at.
 //! Not promised: time, or that memory is there.
 #![tactic(auto)]

@@ -15,7 +15,7 @@ use binom_poly::{Memory, Poly, Rows, Wide};
 use std::alloc::Global;
 use std::marker::Model;
 
-/// A polynomial as a tree: terms that begin with the same parts share their product.
+/// A polynomial as a tree: terms that end with the same parts share their product.
 #[derive(Debug, Drop)]
 pub struct Nested {
     constant: i128,

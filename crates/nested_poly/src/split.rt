@@ -1,4 +1,4 @@
-//! Terms that begin with one part, and the others.
+//! Terms that end with one part, and the others.
 
 ghost use Rattle.std.specs.Prelude.{◌∷◌, All, IfOk, OnOk};
 ghost use Rattle.nested_poly.specs.Tails.{HasPart};
@@ -8,7 +8,7 @@ use crate::tail::Tail;
 use binom_poly::{Memory, Part};
 use std::alloc::Global;
 
-/// Terms that begin with one part, and the others.
+/// Terms that end with one part, and the others.
 #[derive(Drop)]
 pub struct Split<'a> {
     pub part: Part,
@@ -25,8 +25,8 @@ impl<'a> Split<'a> {
         requires { HasPart tail.now }
         ensures { OnOk result (Adds self.old self.new tail.now) }
     {
-        let (first, rest) = tail.parts.split_at(1);
-        if first[0] != self.part {
+        let (rest, last) = tail.parts.split_at(tail.parts.len() - 1);
+        if last[0] != self.part {
             self.others.push(*tail)?;
         } else if rest.len() > 0 {
             self.below.push(Tail {
@@ -41,14 +41,14 @@ impl<'a> Split<'a> {
         Ok(())
     }
 
-    /// The terms, by the part that the first of them begins with.
+    /// The terms, by the part that the first of them ends with.
     pub fn of(alloc: Global, first: &Tail<'a>, rest: &[Tail<'a>]) -> Result<Split<'a>, Memory>
         requires first { HasPart first.now }
         requires rest { All HasPart rest.now }
         ensures { IfOk result (λ split. IsSplitOf split (first.now ∷ rest.now)) }
     {
         let mut split = Split {
-            part: first.parts[0],
+            part: first.parts[first.parts.len() - 1],
             coefficient: 0,
             below: Vec::new(alloc),
             others: Vec::new(alloc),

@@ -2,7 +2,7 @@
 
 use binom_poly::Part;
 
-/// What is left of a term below the parts that lead to it.
+/// What is left of a term before the parts that lead to it.
 #[derive(Clone, Copy, Debug, Drop)]
 pub struct Tail<'a> {
     pub parts: &'a [Part],

@@ -1,6 +1,6 @@
 use Rattle.std.proofs.Common.{◌∙◌, length, ap}
 use Rattle.binom_poly.proofs.Spreading.{some_here}
-use Rattle.nested_poly.proofs.Behind.{no_constant_first, rest_parts, first_parts, no_parts_asked}
+use Rattle.nested_poly.proofs.Wholes.{no_constant_first, rest_parts, first_parts, no_parts_asked}
 use Rattle.nested_poly.proofs.tails.split_constant.Goals as goal
 use Rattle.nested_poly.proofs.tails.split_constant.Goals.{in_default-via-in-Some+else-is_empty, in_default-via-in_default}
 

@@ -1,13 +1,14 @@
-use Rattle.std.proofs.Common.{arith, rules, FitsSigned}
-use Rattle.std.specs.Int.{w128}
-use Rattle.std.proofs.lemmas.Int.{to_z-of_z}
-use Rattle.nested_poly.proofs.Behind.{no_tails, tails_more}
+use Rattle.std.proofs.lemmas.List.Sorted.{All-permutation}
+use Rattle.nested_poly.specs.Tails.{HasPart}
+use Rattle.nested_poly.proofs.Sorted.{nest-permuted}
 use Rattle.nested_poly.proofs.tails.tails_of.Goals as goal
 
-pub loop-term-init : goal.loop-term-init
-loop-term-init c = no_tails c.in_ok-tails.tails.items c.args.terms.now c.in_ok-tails.ensures.items
+pub returns-clause-terms : goal.returns-clause-terms
+returns-clause-terms c =
+    nest-permuted c.in_ok-tails.tails.items c.sort_unstable_by.new.self.items c.args.terms.now
+    c.in_ok-tails.ensures.terms c.sort_unstable_by.ensures.permutation
 
-pub loop-term-preserved : goal.loop-term-preserved
-loop-term-preserved c =
-    let f : FitsSigned w128 c.term-item.result.coefficient = search rules in
-    tails_more c.loop-term.tails.items _ c.args.terms.now c.loop-term.term-index _ c.term-item.result (omega arith) c.term-item.is c.in_ok-push.ensures.items c.parts.ensures (to_z-of_z w128 c.term-item.result.coefficient f) c.requires c.loop-term.invariant
+pub returns-clause-parts : goal.returns-clause-parts
+returns-clause-parts c =
+    All-permutation HasPart c.in_ok-tails.tails.items c.sort_unstable_by.new.self.items
+    c.sort_unstable_by.ensures.permutation c.in_ok-tails.ensures.parts

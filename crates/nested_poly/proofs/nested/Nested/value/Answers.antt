@@ -4,7 +4,7 @@ use Rattle.std.proofs.lemmas.Int.{to_z-of_z}
 use Rattle.std.proofs.lemmas.Result.{err_from_is_err_and}
 use Rattle.binom_poly.specs.Readings.{value_at, magnitude_of}
 use Rattle.nested_poly.specs.Nodes.{terms_of, constant_term}
-use Rattle.nested_poly.proofs.Behind.{nodes_overflow, whole_overflows, bits_value}
+use Rattle.nested_poly.proofs.Wholes.{nodes_overflow, whole_overflows, bits_value}
 use Rattle.nested_poly.proofs.nested.Nested.value.Goals as goal
 
 pub returns-in_err-sum : goal.returns-in_err-sum

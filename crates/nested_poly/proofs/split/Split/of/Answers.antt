@@ -1,10 +1,11 @@
-use Rattle.std.proofs.Common.{refl}
-use Rattle.nested_poly.proofs.Splitting.{first_added, next_added, so_far_ends, own_first, tail_at}
+use Rattle.std.proofs.Common.{◌-◌, length, refl, arith}
+use Rattle.nested_poly.proofs.Ending.{own_last, tail_at}
+use Rattle.nested_poly.proofs.Splitting.{first_added, next_added, so_far_ends}
 use Rattle.nested_poly.proofs.split.Split.of.Goals as goal
 
 pub loop-tail-init : goal.loop-tail-init
 loop-tail-init c =
-    first_added _ c.add.new.self c.args.first.now refl c.new.ensures.items c.new-2.ensures.items c.requires.first (own_first c.args.first.now.parts.now record { var = 0; exp = 0 } c.requires.first) c.in_ok-add.ensures
+    first_added _ c.add.new.self c.args.first.now refl c.new.ensures.items c.new-2.ensures.items c.requires.first (own_last c.args.first.now.parts.now (length c.args.first.now.parts.now - 1) record { var = 0; exp = 0 } (omega (arith, c.requires.first))) c.in_ok-add.ensures
 
 pub loop-tail-preserved : goal.loop-tail-preserved
 loop-tail-preserved c =
