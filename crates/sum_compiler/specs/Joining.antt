@@ -3,7 +3,8 @@
 --   power_of t Q g       the powers Q with the vector in place of z and the exponent in place of t
 --   times t xs ys        the product by the table
 --   joined t Q w gs      w, then the product with each power
---   power_calls, times_calls, joined_calls    the calls that make these, for a step and its j
+--   power_calls, times_calls, next_calls, joined_calls    the calls that make these, for a step and
+--                        its j; next_calls those of one more power
 -- t table · Q its powers · g power · gs powers · w xs ys vectors of polynomials · step j of a place
 use Rattle.std.specs.Prelude.{ℕ, List, [], ◌∷◌, ◌++◌}
 use Rattle.binom_poly.specs.declared.term.Term.{Term}

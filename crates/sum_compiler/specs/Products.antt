@@ -2,6 +2,7 @@
 --   at_y t i                 puts y_i in place of t
 --   product_power made t i j     A_j there, to the power x_j
 --   base_of made t i j       puts A_j there in place of z, and x_j in place of t
+--   later_powers made t i    the powers of the generators after the first
 --   product made t i         P, the product of these, j ascending
 --   at_y_calls, all_at_y_calls, product_plan    the calls that make these
 -- t table · i level below it · j generator, js generators · made the images of all generators

@@ -5,6 +5,7 @@
 --                          of the y
 --   next_step t ys xs      what a step adds to it
 --   with_sums t ys xs d    xs and the next d entries
+--   next_calls step j t ys xs    the calls that make the next entry
 --   sum_calls step j t ys xs d   the calls that make these
 -- t table · xs ys polynomials, for the generators from the level of the table on · d number of
 -- entries · step j of a place
