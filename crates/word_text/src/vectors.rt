@@ -12,8 +12,9 @@ use std::alloc::Global;
 pub fn vector_text(alloc: Global, v: &Vector) -> Result<String, Memory>
     ensures { IfOk result (λ s. string_bytes s ≡ text_of_entries v.now) }
 {
-    let mut text = String::new(alloc);
     let entries = v.entries();
+    // Most entries take at most three bytes, and a space or a line feed follows.
+    let mut text = String::with_capacity(alloc, entries.len().saturating_mul(4))?;
     for i in 0..entries.len() {
         push_space(&mut text, i)?;
         push_decimal(&mut text, entries[i])?;
