@@ -1,6 +1,6 @@
 //! What a phrase makes of its parts.
 
-ghost use Rattle.std.specs.Prelude.{◌≡◌, IfOk};
+ghost use Rattle.std.specs.Prelude.{◌≡◌, [], ◌∷◌, ◌++◌, IfOk};
 ghost use Rattle.word_text.specs.Products.{product_of};
 ghost use Rattle.word_text.specs.Machine.{behind, behind_integer};
 ghost use Rattle.word_text.specs.State.{empty};
@@ -11,19 +11,16 @@ use nil_word::{Expr, Memory};
 use sqlite_items::{Boxed, Items};
 use std::alloc::Global;
 
-/// The expression of a list of factors.
-pub(super) fn whole(items: Items<Expr>) -> Expr
-    ensures { result ≡ product_of items }
+/// The expression of factors and the last one, which takes no memory where it is alone.
+pub(super) fn whole(done: Items<Expr>, item: Expr) -> Result<Expr, Memory>
+    ensures { IfOk result (λ e. e ≡ product_of (done ++ item ∷ [])) }
 {
-    let mut items = items;
-    if items.len() == 1 {
-        match items.pop() {
-            Some(item) => item,
-            None => unreachable!(),
-        }
-    } else {
-        Expr::Product(items)
+    if done.is_empty() {
+        return Ok(item);
     }
+    let mut done = done;
+    done.push(item)?;
+    Ok(Expr::Product(done))
 }
 
 /// The level behind an opening bracket or a `,`.

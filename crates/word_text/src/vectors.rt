@@ -4,6 +4,7 @@ ghost use Rattle.std.specs.Prelude.{◌≡◌, ◌++◌, string_bytes, IfOk, OnO
 ghost use Rattle.std.specs.Fmt.{signed_decimal};
 ghost use Rattle.word_text.specs.Vectors.{text_of_entries, space_before};
 
+use itoa::Buffer;
 use nil_word::{Memory, Vector};
 use std::alloc::Global;
 
@@ -11,11 +12,12 @@ use std::alloc::Global;
 pub fn vector_text(alloc: Global, v: &Vector) -> Result<String, Memory>
     ensures { IfOk result (λ s. string_bytes s ≡ text_of_entries v.now) }
 {
-    let mut text = String::new(alloc);
     let entries = v.entries();
+    // Most entries take at most three bytes, and a space or a line feed follows.
+    let mut text = String::with_capacity(alloc, entries.len().saturating_mul(4))?;
     for i in 0..entries.len() {
         push_space(&mut text, i)?;
-        push_decimal(&mut text, alloc, entries[i])?;
+        push_decimal(&mut text, entries[i])?;
     }
     Ok(text)
 }
@@ -32,9 +34,9 @@ fn push_space(text: &mut String, place: usize) -> Result<(), Memory>
 }
 
 /// A number in decimal.
-pub(super) fn push_decimal(text: &mut String, alloc: Global, value: i128) -> Result<(), Memory>
+pub(super) fn push_decimal(text: &mut String, value: i128) -> Result<(), Memory>
     ensures { OnOk result (string_bytes text.new ≡ string_bytes text.old ++ signed_decimal value) }
 {
-    let decimal = value.to_string(alloc)?;
-    text.push_str(decimal.as_str())
+    let mut decimal = Buffer::new();
+    text.push_str(decimal.format(value))
 }

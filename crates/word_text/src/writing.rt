@@ -25,12 +25,7 @@ fn name_of(pres: &Presentation, number: u32) -> &str
     }
 }
 
-fn push_token(
-    text: &mut String,
-    alloc: Global,
-    pres: &Presentation,
-    kind: Kind,
-) -> Result<(), Memory>
+fn push_token(text: &mut String, pres: &Presentation, kind: Kind) -> Result<(), Memory>
     ensures { OnOk result (string_bytes text.new ≡ string_bytes text.old ++ kind_text pres.now.names kind) }
 {
     match kind {
@@ -38,7 +33,7 @@ fn push_token(
         Kind::Integer {
             value: Some(value),
             ..
-        } => push_decimal(text, alloc, value),
+        } => push_decimal(text, value),
         _ => text.push_str(fixed_text(kind)),
     }
 }
@@ -68,7 +63,7 @@ fn text_of(alloc: Global, pres: &Presentation, tokens: &[Kind]) -> Result<String
 {
     let mut text = String::new(alloc);
     for kind in tokens {
-        push_token(&mut text, alloc, pres, *kind)?;
+        push_token(&mut text, pres, *kind)?;
     }
     Ok(text)
 }
