@@ -1,4 +1,5 @@
 -- The walk over the identities of a table, as a list of events in their written order.
+--   Event               what stops a walk, if anything does: one of the next two
 --   makes id            the polynomial f_k of a step, with y_j replaced by 1 or -1, is made
 --   tries id            the two sides of an identity are made, and compared
 --   at_each ks e        e k for each k of ks

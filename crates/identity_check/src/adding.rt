@@ -1,6 +1,6 @@
 //! Generators that are added on: their y stands in no polynomial but their own.
 
-ghost use Rattle.std.specs.Prelude.{◌≡◌, ◌==◌, ◌≤◌, not, IfOk, IsTrue};
+ghost use Rattle.std.specs.Prelude.{◌≡◌, ◌==◌, ◌≤◌, not, All, IfOk, IsTrue};
 ghost use Rattle.std.specs.List.{list_all};
 ghost use Rattle.hall_table.specs.Tabled.{last_of};
 ghost use Rattle.identity_check.specs.Adding.{IsAddedOn, is_free};
@@ -28,7 +28,7 @@ fn is_free(poly: &Poly, v: u32) -> bool
 }
 
 /// Whether a generator is added on.
-pub fn is_added_on(table: &Table, m: u32) -> bool
+fn is_added_on(table: &Table, m: u32) -> bool
     requires least { table.now.level ≤ m }
     requires most { m ≤ last_of table.now }
     ensures { IsTrue result → IsAddedOn table.now m }
@@ -45,7 +45,9 @@ pub fn is_added_on(table: &Table, m: u32) -> bool
 
 /// The generators that are added on.
 pub fn added_on(alloc: Global, table: &Table) -> Result<Vec<u32>, Memory>
-    ensures { IfOk result (λ ms. AreGenerators table.now.level (last_of table.now) ms.items) }
+    ensures generators { IfOk result (λ ms.
+        AreGenerators table.now.level (last_of table.now) ms.items) }
+    ensures added { IfOk result (λ ms. All (IsAddedOn table.now) ms.items) }
 {
     let mut added = Vec::new(alloc);
     for m in table.level()..table.last() + 1 {

@@ -1,17 +1,18 @@
 //! Whether few of the identities are enough, so that the others needn't be tried.
 
-ghost use Rattle.std.specs.Prelude.{◌≡◌, ◌≤◌, length, IfOk, IsTrue, OnOk};
+ghost use Rattle.std.specs.Prelude.{◌≡◌, ◌≤◌, length, All, IfOk, IsTrue, OnOk};
 ghost use Rattle.nil_word.specs.Congruence.{Relations};
 ghost use Rattle.nil_pres.specs.Relations.{relations_of};
 ghost use Rattle.poly_subst.specs.Walk.{in_x};
 ghost use Rattle.hall_table.specs.Tabled.{last_of, poly_at};
 ghost use Rattle.hall_table.specs.Order.{generators};
+ghost use Rattle.identity_check.specs.Adding.{IsAddedOn};
 ghost use Rattle.identity_check.specs.Drawing.{AreGenerators};
 ghost use Rattle.identity_check.specs.Events.{HaveEqualSides};
 ghost use Rattle.identity_check.specs.Few.{AllStep, Steps};
 
 use crate::Memory;
-use crate::adding::{added_on, is_added_on};
+use crate::adding::added_on;
 use crate::crossing::all_cross;
 use crate::drawing::walked;
 use crate::halt::Halt;
@@ -23,29 +24,37 @@ use nil_pres::Presentation;
 use poly_subst::{Substitution, steps_fit};
 use std::alloc::{AllocError, Global};
 
-/// Tries the step identities of a generator, and not those of its inverse; one that is added on has
-/// no need of them.
-fn step_up(alloc: Global, table: &Table, put: &mut Substitution, j: u32) -> Result<(), Halt>
+/// Tries the step identities of a generator, and not those of its inverse; one that is known to be
+/// added on has no need of them.
+fn step_up(
+    alloc: Global,
+    table: &Table,
+    put: &mut Substitution,
+    known: &[u32],
+    j: u32,
+) -> Result<(), Halt>
+    requires known { All (IsAddedOn table.now) known.now }
     requires least { table.now.level ≤ j }
     requires most { j ≤ last_of table.now }
     requires put { put.old ≡ in_x table.now.level (generators table.now) (poly_at table.now) }
     ensures steps { OnOk result ((rels : Relations) → Steps rels table.now j) }
     ensures kept { put.new ≡ put.old }
 {
-    if is_added_on(table, j) {
+    if known.contains(&j) {
         return Ok(());
     }
     steps(alloc, table, put, j, true)
 }
 
 /// Tries these of some generators.
-fn steps_up(alloc: Global, table: &Table, walked: &[u32]) -> Result<(), Halt>
-    requires { AreGenerators table.now.level (last_of table.now) walked.now }
+fn steps_up(alloc: Global, table: &Table, known: &[u32], walked: &[u32]) -> Result<(), Halt>
+    requires known { All (IsAddedOn table.now) known.now }
+    requires walked { AreGenerators table.now.level (last_of table.now) walked.now }
     ensures { OnOk result ((rels : Relations) → AllStep rels table.now walked.now) }
 {
     let mut put = put_x(alloc, table)?;
     for j in walked {
-        step_up(alloc, table, &mut put, *j)?;
+        step_up(alloc, table, &mut put, known, *j)?;
     }
     Ok(())
 }
@@ -78,7 +87,7 @@ pub fn few_hold(alloc: Global, pres: &Presentation, table: &Table) -> Result<boo
     }
     let known = added_on(alloc, table)?;
     let walked = walked(alloc, pres, table.level(), &known)?;
-    if !is_through(steps_up(alloc, table, &walked))? {
+    if !is_through(steps_up(alloc, table, &known, &walked))? {
         return Ok(false);
     }
     is_through(all_relations(alloc, pres, table))

@@ -16,7 +16,7 @@ returns c =
     let t = c.args.table.now in
     let pres = c.args.pres.now in
     let rels = relations_of pres in
-    let ms = c.deref-2.result.now in
+    let ms = c.deref-3.result.now in
     IfOk-weaker c.is_through-2.result
     (λ held. IsTrue held → c.all_relations.result ≡ Ok tt)
     (λ held. IsTrue held → HaveEqualSides rels t)
@@ -28,7 +28,7 @@ returns c =
           (c.if-not-steps_fit.ensures refl);
       crossing = c.all_cross.ensures c.if-not-all_cross.false;
       enough = subst (λ l. AreEnough rels l ms) c.level-2.ensures.level
-          (subst (λ ns. AreEnough rels c.level-2.result ns) (sym c.deref-2.ensures.value)
+          (subst (λ ns. AreEnough rels c.level-2.result ns) (sym c.deref-3.ensures.value)
           c.in_ok-walked.ensures.enough);
       steps = subst (λ r. OnOk r ((some : Relations) → AllStep some t ms))
           (c.in_ok-is_through.ensures c.if-not-branch.false) c.steps_up.ensures rels;
