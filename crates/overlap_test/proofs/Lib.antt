@@ -6,3 +6,8 @@ pub mod Judging
 pub mod Meaning
 pub mod Rooms
 pub mod Collecting
+pub mod SmallRows
+pub mod Powers
+pub mod Crossed
+pub mod CrossedSums
+pub mod CommutingWays

@@ -4,6 +4,7 @@
 //! named.
 #![tactic(auto)]
 
+mod commuting;
 mod images;
 pub mod laws;
 mod level_result;

@@ -8,6 +8,7 @@ ghost use Rattle.overlap_test.specs.Inconsistent.{ShowsInconsistent};
 ghost use Rattle.overlap_test.specs.Room.{IsRoomOf};
 ghost use Rattle.overlap_test.specs.Verdict.{first_event, row, tried, verdict, IsVerdict, IfAgree, IfDiffer};
 
+use super::commuting::{commuting_agree, do_commute};
 use super::laws::verdicts;
 use super::level_result::LevelResult;
 use super::ways::Ways;
@@ -58,6 +59,7 @@ fn try_row(
     requires least { 1 ≤ i }
     requires below { i < j }
     requires most { j ≤ length above.now.pres.names }
+    requires level { above.now.table.level ≡ i + 1 }
     requires room { IsRoomOf ways.old above.now i }
     ensures order { IfOk result
         (λ r. r ≡ first_event (map (tried above.now i) (row (length above.now.pres.names) j))) }
@@ -86,10 +88,16 @@ fn try_overlap(
     requires below { i < j }
     requires above { j < k }
     requires most { k ≤ length above.now.pres.names }
+    requires level { above.now.table.level ≡ i + 1 }
     requires room { IsRoomOf ways.old above.now i }
     ensures order { IfOk result (λ r. r ≡ tried above.now i (j, k)) }
     ensures room { IsRoomOf ways.new above.now i }
 {
+    if do_commute(above.pres(), i, j, k) {
+        commuting_agree();
+        let _level = above.table().level();
+        return Ok(LevelResult::Agree);
+    }
     if ways.write(above, i, j, k).is_err() {
         return Ok(LevelResult::Wide { j, k });
     }

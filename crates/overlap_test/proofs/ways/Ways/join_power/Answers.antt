@@ -1,4 +1,4 @@
-use Rattle.std.proofs.Common.{◌≡◌, ◌∙◌, ℤ, List, length, Ok, ap, sym, refl, arith, rules}
+use Rattle.std.proofs.Common.{◌∙◌, ℤ, List, length, Ok, ap, sym, refl, arith, rules}
 use Rattle.std.proofs.lemmas.Result.{err_from_is_err_and}
 use Rattle.overlap_test.proofs.Rooms.{place, length-at_place, power_is, exponent_is, joined_err, joined_is, refilled, length-multiplied, length-powered}
 use Rattle.overlap_test.proofs.ways.Ways.join_power.Goals as goal
