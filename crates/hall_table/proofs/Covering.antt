@@ -136,7 +136,7 @@ pub y_positive : (t : Tabled) (rows : List Reading) (k : ℕ) → HasRows t rows
     → 0 < width_at rows (y_of k)
 y_positive t rows k r low high = row_positive t rows (y_of k) r (is_lower-y t.level (last_of t + 1) k low (omega arith))
 
-same_default : (ps : List (List Term)) (i : ℕ) (d : List Term) → i < length ps → get_or ps i d ≡ get_or ps i []
+pub same_default : (ps : List (List Term)) (i : ℕ) (d : List Term) → i < length ps → get_or ps i d ≡ get_or ps i []
 same_default [] i d l = absurd (omega arith)
 same_default (p ∷ ps) zero d l = refl
 same_default (p ∷ ps) (suc i) d l = same_default ps i d (omega arith)

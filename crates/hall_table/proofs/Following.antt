@@ -1,6 +1,6 @@
 -- What the loops of a product keep.
 --   t table · place the variable of a generator · v a b vectors · k j generators · x number
-use Rattle.std.proofs.Common.{◌≡◌, ◌≢◌, ℕ, ◌+◌, ◌-◌, ◌<◌, ◌≤◌, Bool, true, false, cond, List, length, map, sym, ap, ◌∙◌, subst, arith, below_more}
+use Rattle.std.proofs.Common.{◌≡◌, ◌≢◌, ℕ, ◌+◌, ◌-◌, ◌<◌, ◌≤◌, ◌^◌, Bool, true, false, cond, List, length, map, sym, ap, ◌∙◌, subst, arith, below_more}
 use Rattle.std.specs.Prelude.{Some, None, option_map, slice_get}
 use Rattle.std.proofs.lemmas.Option.{get_or_from_slice_get}
 use lib.IntN.{ℤ, pos}
@@ -10,7 +10,12 @@ use Rattle.hall_law.proofs.Entries.{same_entries, length-map_numbers, entry-map_
 use Rattle.binom_poly.specs.Polynomial.{value_of}
 use Rattle.binom_poly.specs.Reading.{Reading}
 use Rattle.binom_poly.specs.Readings.{value_at, width_at, with_value}
-use Rattle.nil_num.specs.Bound.{IsNumber}
+use Rattle.nil_num.specs.Bound.{overflows}
+use Rattle.nested_poly.specs.declared.weighed.Weighed.{Weighed}
+use Rattle.nested_poly.specs.Counts.{weighed_at}
+use Rattle.hall_table.specs.declared.wide_at.WideAt.TheVariants.{Sum}
+use Rattle.hall_table.specs.Summed.{sum_in, value_in}
+use Rattle.std.proofs.lemmas.Bool.Decides.{nat_tests}
 use Rattle.nil_num.specs.First.{first_from}
 use Rattle.hall_table.specs.declared.wide_at.WideAt.{WideAt}
 use Rattle.hall_table.specs.Tabled.{Tabled, IsTabled, last_of, poly_at}
@@ -56,26 +61,46 @@ named_first place p t k at h low high before e f =
     ∙ ap (λ w. Some w) (sym f)
 
 -- ---- sums
-pub record SumsSoFar (t : Tabled) (a : ℕ → ℤ) (sums : List ℤ) (k : ℕ) : Type 0 where
-  pub fits : (j : ℕ) → j < k → t.level ≤ j → sum_overflows a (poly_at t j) ≡ false
-  pub made : (j : ℕ) → j < k → t.level ≤ j
-      → (entry sums j ≡ value_of a (poly_at t j)) × IsNumber (entry sums j)
+pub record FitSoFar (sums : List Weighed) (i : ℕ) : Type 0 where
+  pub fits : (j : ℕ) → j < i → (weighed_at sums j).magnitude < 2 ^ 127
 
-pub all_sums : (t : Tabled) (a : ℕ → ℤ) (sums : List ℤ) (k end : ℕ) → IsTabled t → SumsSoFar t a sums k
-    → end ≡ last_of t + 1 → end ≤ k → first_from t.level (generators t) (λ j. sum_overflows a (poly_at t j)) ≡ None
-all_sums t a sums k end h s e l =
-    let nonempty : 0 < length t.polys = h.nonempty in
-    first_none (λ j. sum_overflows a (poly_at t j)) t.level (generators t) (λ j b c. s.fits j (omega arith) b)
+overflows-fits : (n : ℕ) → n < 2 ^ 127 → overflows n ≡ false
+overflows-fits n l = grind (arith, nat_tests)
+
+fits-overflows : (n : ℕ) → overflows n ≡ false → n < 2 ^ 127
+fits-overflows n e = grind (arith, nat_tests)
+
+pub fit_more : (sums : List Weighed) (i : ℕ) (w : Weighed) (b : Bool) → w ≡ weighed_at sums i → b ≡ overflows w.magnitude → b ≡ false → FitSoFar sums i → FitSoFar sums (i + 1)
+fit_more sums i w b e f g h = record {
+  fits =
+      below_more (λ j. (weighed_at sums j).magnitude < 2 ^ 127) i h.fits
+      (subst (λ (v : Weighed). v.magnitude < 2 ^ 127) e (fits-overflows w.magnitude (sym f ∙ g)));
+}
+
+pub all_fit : (level : ℕ) (sums : List Weighed) (i : ℕ) → length sums ≤ i → FitSoFar sums i
+    → first_from level (length sums) (λ k. overflows (sum_in level sums k).magnitude) ≡ None
+all_fit level sums i l h =
+    first_none (λ k. overflows (sum_in level sums k).magnitude) level (length sums)
+    (λ j a b. overflows-fits (sum_in level sums j).magnitude (h.fits (j - level) (omega arith)))
+
+pub wide_named : (level : ℕ) (sums : List Weighed) (i k : ℕ) (w : Weighed) (b : Bool) → i < length sums → k ≡ level + i → w ≡ weighed_at sums i → b ≡ overflows w.magnitude → b ≡ true → FitSoFar sums i
+    → option_map (λ k. Sum k) (first_from level (length sums) (λ k. overflows (sum_in level sums k).magnitude)) ≡ Some (Sum k)
+wide_named level sums i k w b l e f g t h =
+    let q : k - level ≡ i = omega arith in
+    ap (option_map (λ k. Sum k))
+    (first_found (λ k. overflows (sum_in level sums k).magnitude) level (length sums) k (omega arith) (omega arith)
+    (λ j a c. overflows-fits (sum_in level sums j).magnitude (h.fits (j - level) (omega arith)))
+    (ap (λ j. overflows (weighed_at sums j).magnitude) q ∙ ap (λ (v : Weighed). overflows v.magnitude) (sym f) ∙ sym g ∙ t))
 
 -- ---- the vector that is written
-pub record WrittenSoFar (sums : List ℤ) (level last : ℕ) (out : List ℤ) (k : ℕ) : Type 0 where
+pub record WrittenSoFar (sums : List Weighed) (level last : ℕ) (out : List ℤ) (k : ℕ) : Type 0 where
   pub size : length out ≡ last
-  pub entries : (j : ℕ) → j < k → 1 ≤ j → entry out j ≡ cond (ltb j level) (pos 0) (entry sums j)
+  pub entries : (j : ℕ) → j < k → 1 ≤ j → entry out j ≡ cond (ltb j level) (pos 0) (value_in level sums j)
 
-pub all_written : (sums : List ℤ) (level last : ℕ) (out : List ℤ) (k end : ℕ) → WrittenSoFar sums level last out k
-    → end ≡ last + 1 → end ≤ k → out ≡ map (λ j. cond (ltb j level) (pos 0) (entry sums j)) (numbers 1 last)
+pub all_written : (sums : List Weighed) (level last : ℕ) (out : List ℤ) (k end : ℕ) → WrittenSoFar sums level last out k
+    → end ≡ last + 1 → end ≤ k → out ≡ map (λ j. cond (ltb j level) (pos 0) (value_in level sums j)) (numbers 1 last)
 all_written sums level last out k end s e l =
-    let g : ℕ → ℤ = λ j. cond (ltb j level) (pos 0) (entry sums j) in
+    let g : ℕ → ℤ = λ j. cond (ltb j level) (pos 0) (value_in level sums j) in
     same_entries last out (map g (numbers 1 last)) s.size (length-map_numbers last g)
     (λ m a b. s.entries m (omega arith) a ∙ sym (entry-map_numbers last g m a b))
 

@@ -14,3 +14,4 @@ pub mod Factoring
 pub mod OneTable
 pub mod OfShape
 pub mod Nested
+pub mod Sums

@@ -20,7 +20,10 @@ use Rattle.hall_table.specs.declared.wide_at.WideAt.{WideAt}
 use Rattle.hall_table.specs.declared.wide_at.WideAt.TheVariants.{RowX, RowY, Sum}
 use Rattle.hall_table.specs.Shape.{IsX, is_lower, AreLower}
 use Rattle.hall_table.specs.Tabled.{Tabled, IsTabled, last_of, poly_at}
+use Rattle.hall_table.specs.Summed.{sum_in, value_in, AreSummed}
 use Rattle.hall_table.specs.Values.{point_of, values}
+use Rattle.nested_poly.specs.declared.weighed.Weighed.{Weighed}
+use Rattle.nested_poly.specs.Counts.{weighed_at, IsSumOf}
 use Rattle.hall_table.specs.Order.{generators, named, sum_overflows, x_overflows, y_overflows, sum_at_overflows, multiplied}
 use Rattle.hall_table.proofs.Covering.{poly_lower}
 use Rattle.hall_table.proofs.Putting.{Agree, value-agree, magnitude-agree}
@@ -76,7 +79,7 @@ points_agree t a b rows k h r low high =
     (poly_at t k) (poly_lower t k h low high)
 
 -- ---- the sums
-first_same : (p q : ℕ → Bool) (low d : ℕ) → ((k : ℕ) → low ≤ k → k < low + d → p k ≡ q k)
+pub first_same : (p q : ℕ → Bool) (low d : ℕ) → ((k : ℕ) → low ≤ k → k < low + d → p k ≡ q k)
     → first_from low d p ≡ first_from low d q
 first_same p q low zero h = refl
 first_same p q low (suc d) h =
@@ -129,20 +132,20 @@ map-numbers g h low (suc d) e =
 not_less : (k level : ℕ) → ltb k level ≡ false → level ≤ k
 not_less k level h = grind (arith, nat_tests)
 
-pub values_written : (t : Tabled) (a b : List ℤ) (rows : List Reading) (sums out : List ℤ) (level last : ℕ) → IsTabled t
+pub values_written : (t : Tabled) (a b : List ℤ) (rows : List Reading) (sums : List Weighed) (out : List ℤ) (level last : ℕ) → IsTabled t
     → Hold t a b rows
     → ((k : ℕ) → t.level ≤ k → k ≤ last_of t
-    → (entry sums k ≡ value_of (value_at rows) (poly_at t k)) × IsNumber (entry sums k))
+    → (value_in t.level sums k ≡ value_of (value_at rows) (poly_at t k)) × IsNumber (value_in t.level sums k))
     → level ≡ t.level → last ≡ last_of t
-    → out ≡ map (λ k. cond (ltb k level) (pos 0) (entry sums k)) (numbers 1 last) → out ≡ values t a b
+    → out ≡ map (λ k. cond (ltb k level) (pos 0) (value_in level sums k)) (numbers 1 last) → out ≡ values t a b
 values_written t a b rows sums out level last h r s e f o =
-    o ∙ ap (λ (i : ℕ). map (λ k. cond (ltb k i) (pos 0) (entry sums k)) (numbers 1 last)) e
-    ∙ ap (λ (n : ℕ). map (λ k. cond (ltb k t.level) (pos 0) (entry sums k)) (numbers 1 n)) f
-    ∙ map-numbers (λ k. cond (ltb k t.level) (pos 0) (entry sums k))
+    o ∙ ap (λ (i : ℕ). map (λ k. cond (ltb k i) (pos 0) (value_in i sums k)) (numbers 1 last)) e
+    ∙ ap (λ (n : ℕ). map (λ k. cond (ltb k t.level) (pos 0) (value_in t.level sums k)) (numbers 1 n)) f
+    ∙ map-numbers (λ k. cond (ltb k t.level) (pos 0) (value_in t.level sums k))
     (λ k. cond (ltb k t.level) (pos 0) (value_of (point_of a b) (poly_at t k))) 1 (last_of t)
     (λ k l m. (elim (cases_Bool (ltb k t.level)) [
       | inl c ↦
-          ap (λ (i : Bool). cond i (pos 0) (entry sums k)) c
+          ap (λ (i : Bool). cond i (pos 0) (value_in t.level sums k)) c
           ∙ sym (ap (λ (i : Bool). cond i (pos 0) (value_of (point_of a b) (poly_at t k))) c)
       | inr c ↦
           let low = not_less k t.level c in

@@ -6,4 +6,4 @@ pub mod Order
 pub mod Tail
 pub mod Multiplies
 pub mod Agreement
-pub mod Nests
+pub mod Summed

@@ -1,17 +1,18 @@
 //! Products by a table.
 
-ghost use Rattle.std.specs.Prelude.{◌≡◌, ◌≤◌, ℕ, ℤ, pos, negsuc, ◌≤ℤ◌, length, map, cond, OnOk, OnErr, IfOk};
+ghost use Rattle.std.specs.Prelude.{◌≡◌, ◌+◌, ◌-◌, ◌≤◌, ℕ, ℤ, pos, negsuc, ◌≤ℤ◌, length, map, cond, OnOk, OnErr, IfOk};
 ghost use Rattle.std.proofs.Common.{ltb};
 ghost use Rattle.nil_num.specs.Bound.{IsNumber, Overflows};
 ghost use Rattle.nil_word.specs.Exponents.{entry, numbers};
-ghost use Rattle.nil_num.specs.Bound.{IsNumber};
 ghost use Rattle.binom_poly.specs.Polynomial.{value_of};
 ghost use Rattle.binom_poly.specs.Readings.{magnitude_of, value_at, with_value};
 ghost use Rattle.binom_poly.specs.Variable.{y_of};
+ghost use Rattle.hall_table.specs.Summed.{value_in};
 
 use super::table::{GENERATOR_LIMIT, Table};
 use super::wide_at::WideAt;
 use binom_poly::{Rows, Wide, y_of};
+use nested_poly::Weighed;
 use nil_word::Vector;
 
 impl Table {
@@ -67,7 +68,7 @@ impl Table {
         ensures { Unless (Overflows (magnitude_of (value_at rows.now) (poly_at self.now k)))
             (value_of (value_at rows.now) (poly_at self.now k)) result }
     {
-        self.nested[(k - self.level) as usize].value(rows)
+        self.forest.value((k - self.level) as usize, rows)
     }
 
     /// The value of a generator's polynomial at the values of the rows.
@@ -121,24 +122,6 @@ impl Table {
         Ok(())
     }
 
-    /// Writes the values of all polynomials, or names the first sum that overflows.
-    fn put_sums(&self, rows: &Rows, sums: &mut [i128]) -> Result<(), WideAt>
-        requires length { length sums.old ≡ GENERATOR_LIMIT }
-        requires rows { HasRows self.now rows.now }
-        ensures first { let found = first_from self.now.level (generators self.now)
-            (λ k. sum_overflows (value_at rows.now) (poly_at self.now k)) in
-            NamesFound WideAt.Sum found result }
-        ensures length { length sums.new ≡ GENERATOR_LIMIT }
-        ensures sums { OnOk result ((k : ℕ) → self.now.level ≤ k → k ≤ last_of self.now
-            → (entry sums.new k ≡ value_of (value_at rows.now) (poly_at self.now k))
-            × IsNumber (entry sums.new k)) }
-    {
-        for k in self.level()..self.last() + 1 {
-            sums[k as usize - 1] = self.entry(rows, k)?;
-        }
-        Ok(())
-    }
-
     /// Writes the product of two vectors. After a refusal `out` is as before.
     pub fn multiply_into(
         &self,
@@ -161,38 +144,38 @@ impl Table {
         let last = self.last();
         self.put_x(rows, a)?;
         self.put_y(rows, b)?;
-        let mut sums = [0i128; GENERATOR_LIMIT];
-        self.put_sums(rows, &mut sums)?;
-        write(&sums, level, last, out);
+        let mut all = [Weighed::NONE; GENERATOR_LIMIT];
+        let (sums, _) = all.split_at_mut((last + 1 - level) as usize);
+        self.put_sums(rows, sums)?;
+        write(sums, level, last, out);
         Ok(())
     }
 }
 
-/// Writes sums to a vector, and 0 below the level.
-fn write(sums: &[i128], level: u32, last: u32, out: &mut Vector)
-    requires length { length sums.now ≡ GENERATOR_LIMIT }
+/// Writes the values of sums to a vector, and 0 below the level.
+fn write(sums: &[Weighed], level: u32, last: u32, out: &mut Vector)
+    requires length { level + length sums.now ≡ last + 1 }
     requires out { length out.old ≡ last }
     requires most { last ≤ GENERATOR_LIMIT }
-    requires within { (k : ℕ) → level ≤ k → k ≤ last → IsNumber (entry sums.now k) }
-    ensures { out.new ≡ map (λ k. cond (ltb k level) (pos 0) (entry sums.now k)) (numbers 1 last) }
+    requires within { (k : ℕ) → level ≤ k → k ≤ last → IsNumber (value_in level sums.now k) }
+    ensures { out.new
+        ≡ map (λ k. cond (ltb k level) (pos 0) (value_in level sums.now k)) (numbers 1 last) }
 {
     for k in 1..last + 1 {
         out.set(k, sum_at(sums, level, last, k));
     }
 }
 
-/// The sum of a generator, and 0 below the level.
-fn sum_at(sums: &[i128], level: u32, last: u32, k: u32) -> i128
-    requires length { length sums.now ≡ GENERATOR_LIMIT }
-    requires least { 1 ≤ k }
+/// The value of the sum of a generator, and 0 below the level.
+fn sum_at(sums: &[Weighed], level: u32, last: u32, k: u32) -> i128
+    requires length { level + length sums.now ≡ last + 1 }
     requires last { k ≤ last }
-    requires most { last ≤ GENERATOR_LIMIT }
-    requires within { (k : ℕ) → level ≤ k → k ≤ last → IsNumber (entry sums.now k) }
-    ensures value { result ≡ cond (ltb k level) (pos 0) (entry sums.now k) }
+    requires within { (k : ℕ) → level ≤ k → k ≤ last → IsNumber (value_in level sums.now k) }
+    ensures value { result ≡ cond (ltb k level) (pos 0) (value_in level sums.now k) }
     ensures number { IsNumber result }
 {
     if k < level {
         return 0;
     }
-    sums[k as usize - 1]
+    sums[(k - level) as usize].value
 }

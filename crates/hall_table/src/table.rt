@@ -4,12 +4,11 @@ ghost use Rattle.std.specs.Prelude.{◌≡◌, ℕ, ℤ, ◌+◌, ◌-◌, ◌<�
 ghost use Rattle.binom_poly.specs.Polynomial.{value_of};
 
 use super::Memory;
-use super::nesting::nest_all;
 use super::shaping::has_shape;
 use super::table_of_fault::TableOfFault;
 use super::tailing::from_level;
 use binom_poly::{Poly, copy};
-use nested_poly::Nested;
+use nested_poly::Forest;
 use std::alloc::Global;
 use std::marker::Model;
 
@@ -22,19 +21,19 @@ pub const GENERATOR_LIMIT: usize = 48;
 pub struct Table {
     pub(super) level: u32,
     pub(super) polys: Vec<Poly>,
-    pub(super) nested: Vec<Nested>,
+    pub(super) forest: Forest,
 }
 
 impl Model for Table {
     ghost use Rattle.hall_table.specs.Tabled.{Tabled, IsTabled};
-    ghost use Rattle.hall_table.specs.Nests.{AreNests};
+    ghost use Rattle.nested_poly.specs.Trees.{AreNests};
 
     ghost Value = { Tabled };
 
     ghost view = { λ t. record { level = t.level; polys = t.polys.items } };
 
     ghost invariant = { λ t. IsTabled record { level = t.level; polys = t.polys.items }
-        × AreNests t.nested.items t.polys.items };
+        × AreNests t.forest t.polys.items };
 }
 
 impl Table {
@@ -57,13 +56,13 @@ impl Table {
                 return Err(TableOfFault::Shape(k));
             }
         }
-        let Ok(nested) = nest_all(alloc, &polys) else {
+        let Ok(forest) = Forest::of(alloc, &polys) else {
             return Err(TableOfFault::Memory);
         };
         Ok(Table {
             level,
             polys,
-            nested,
+            forest,
         })
     }
 
@@ -100,11 +99,11 @@ impl Table {
         for poly in &self.polys {
             polys.push(copy(alloc, poly)?)?;
         }
-        let nested = nest_all(alloc, &polys)?;
+        let forest = Forest::of(alloc, &polys)?;
         Ok(Table {
             level: self.level,
             polys,
-            nested,
+            forest,
         })
     }
 
@@ -120,11 +119,11 @@ impl Table {
         for poly in &self.polys[(level - self.level) as usize..] {
             polys.push(from_level(alloc, poly, level)?)?;
         }
-        let nested = nest_all(alloc, &polys)?;
+        let forest = Forest::of(alloc, &polys)?;
         Ok(Table {
             level,
             polys,
-            nested,
+            forest,
         })
     }
 }

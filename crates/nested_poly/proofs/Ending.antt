@@ -16,12 +16,11 @@ not_true : (b : Bool) → b ≡ true → true ≡ not b → ⊥
 not_true true e f = false≢true (sym f)
 not_true false e f = false≢true e
 
-abbrev same : Part → Part → Bool
+abbrev pub same : Part → Part → Bool
 same q p = eqb q.var p.var && eqb q.exp p.exp
 
-same_is : (q p : Part) → false ≡ not (same q p) → q ≡ p
-same_is q p e =
-    let h = not_false (same q p) e in
+pub same_is : (q p : Part) → same q p ≡ true → q ≡ p
+same_is q p h =
     ap (λ (v : ℕ). let r : Part = record { var = v; exp = q.exp } in r) (eqb-true q.var p.var (first_so (eqb q.var p.var) (eqb q.exp p.exp) h))
     ∙ ap (λ (x : ℕ). let r : Part = record { var = p.var; exp = x } in r) (eqb-true q.exp p.exp (second_so (eqb q.var p.var) (eqb q.exp p.exp) h))
 
@@ -48,7 +47,7 @@ ends_other ms ls d p i e l h b = not_true (same (get_or ls 0 d) p) (same_own (ge
 
 pub ends_with : (ms rs ls : List Part) (d p : Part) (i : ℕ) → rs ≡ take i ms → ls ≡ drop i ms → i + 1 ≡ length ms → false ≡ not (same (get_or ls 0 d) p) → ms ≡ rs ++ p ∷ []
 ends_with ms rs ls d p i e f l h =
-    let q : get_or ms i p ≡ p = sym (get_last ms i d p (omega arith)) ∙ ap (λ xs. get_or xs 0 d) (sym f) ∙ same_is (get_or ls 0 d) p h in
+    let q : get_or ms i p ≡ p = sym (get_last ms i d p (omega arith)) ∙ ap (λ xs. get_or xs 0 d) (sym f) ∙ same_is (get_or ls 0 d) p (not_false (same (get_or ls 0 d) p) h) in
     sym (all_taken ms (i + 1) (omega arith)) ∙ (take_at_read ms i p (omega arith)).1 ∙ ap (λ r. take i ms ++ r ∷ []) q ∙ ap (λ xs. xs ++ p ∷ []) (sym e)
   where
     all_taken : (xs : List Part) (j : ℕ) → length xs ≤ j → take j xs ≡ xs

@@ -1,5 +1,5 @@
 pub mod Branching
-pub mod Summing
+pub mod Levels
 pub mod Joining
 pub mod Ending
 pub mod Adding
@@ -8,3 +8,12 @@ pub mod Behind
 pub mod Wholes
 pub mod Runs
 pub mod Sorted
+pub mod Nesting
+pub mod Rooting
+pub mod Counting
+pub mod Firsts
+pub mod Gathering
+pub mod Forests
+pub mod Totals
+pub mod Grouping
+pub mod Starting

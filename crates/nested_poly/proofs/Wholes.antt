@@ -114,11 +114,11 @@ nested_whole c none ns ts us p e h f k =
           (nest_constant c (terms_of ns) us (subst (λ xs. IsNestOf (terms_of xs) us) (sym n) (nest_trans (terms_of h.added) (tail_terms ts) us h.nest f))) k,
     )
 
-value_whole : (a : ℕ → ℤ) (c : ℤ) (ts : List Term) → value_of a (constant_term c ∷ ts) ≡ value_of a ts +ℤ c
+pub value_whole : (a : ℕ → ℤ) (c : ℤ) (ts : List Term) → value_of a (constant_term c ∷ ts) ≡ value_of a ts +ℤ c
 unfolding value_of monomial_value
 value_whole a c ts = ap (λ z. z +ℤ value_of a ts) (mul-one c) ∙ +ℤ_comm c (value_of a ts)
 
-magnitude_whole : (a : ℕ → ℤ) (c : ℤ) (ts : List Term) → magnitude_of a (constant_term c ∷ ts) ≡ magnitude_of a ts + unsigned_abs c
+pub magnitude_whole : (a : ℕ → ℤ) (c : ℤ) (ts : List Term) → magnitude_of a (constant_term c ∷ ts) ≡ magnitude_of a ts + unsigned_abs c
 unfolding magnitude_of monomial_value
 magnitude_whole a c ts = ap (λ z. unsigned_abs z + magnitude_of a ts) (mul-one c) ∙ sum_swap (unsigned_abs c) (magnitude_of a ts)
 

@@ -12,7 +12,7 @@ use binom_poly::{Rows, Wide};
 
 /// The terms of a node whose factor isn't 0, and of those below it.
 #[cycle(weigh)]
-fn weigh_branch(node: &Node, below: &[Node], factor: i128, rows: &Rows) -> Result<Weighed, Wide>
+pub fn weigh_branch(node: &Node, below: &[Node], factor: i128, rows: &Rows) -> Result<Weighed, Wide>
     requires form { IsForest below.now }
     requires covered { IsCovered rows.now (branch_terms node.now (terms_of below.now)) }
     requires factor { factor ≡ choose (value_at rows.now node.now.part.var) node.now.part.exp }

@@ -5,11 +5,16 @@
 
 mod building;
 mod evaluation;
-mod nested;
+mod forest;
+mod indexing;
 mod node;
+mod root;
 mod split;
+mod summing;
 mod tail;
 mod tails;
+mod tree;
 mod weighed;
 
-pub use nested::Nested;
+pub use forest::Forest;
+pub use weighed::Weighed;

@@ -1,8 +1,10 @@
 //! Sums with the magnitudes of their terms.
 
-ghost use Rattle.std.specs.Prelude.{◌≡◌, ◌+◌, ◌*◌, ◌+ℤ◌, ◌*ℤ◌, MatchResult, unsigned_abs};
-ghost use Rattle.nil_num.specs.Bound.{Overflows};
-ghost use Rattle.nested_poly.specs.Nodes.{IsWeighed};
+ghost use Rattle.std.specs.Prelude.{◌≡◌, ◌+◌, ◌*◌, ◌+ℤ◌, ◌*ℤ◌, ℕ, ℤ, List, MatchResult, IfOk, unsigned_abs};
+ghost use Rattle.binom_poly.specs.declared.term.Term.{Term};
+ghost use Rattle.nil_num.specs.Bound.{Overflows, overflows};
+ghost use Rattle.nested_poly.specs.Nodes.{IsWeighed, Weighs};
+ghost use Rattle.nested_poly.specs.Counts.{IsTotal, Counts};
 
 use binom_poly::Wide;
 use nil_num::{add_fit, mul_fit};
@@ -20,6 +22,49 @@ impl Weighed {
         value: 0,
         magnitude: 0,
     };
+
+    /// Terms whose magnitudes overflow.
+    const WIDE: Weighed = Weighed {
+        value: 0,
+        magnitude: 1 << 127,
+    };
+
+    /// A constant.
+    pub fn of(number: i128) -> Weighed
+        ensures value { result.value ≡ number }
+        ensures magnitude { result.magnitude ≡ unsigned_abs number }
+    {
+        Weighed {
+            value: number,
+            magnitude: number.unsigned_abs(),
+        }
+    }
+
+    /// Whether the magnitudes overflow.
+    pub fn overflows(self) -> bool
+        ensures { result ≡ overflows self.magnitude }
+    {
+        self.magnitude >= 1 << 127
+    }
+
+    /// These terms and others. Once the magnitudes overflow they stay above the limit.
+    pub fn with(self, more: Result<Weighed, Wide>) -> Weighed
+        requires this { IsTotal self }
+        requires more { IfOk more IsWeighed }
+        ensures total { IsTotal result }
+        ensures counts { (a : ℕ → ℤ) (ts : List Term) → Weighs a ts more → Counts a ts self result }
+    {
+        if self.magnitude >= 1 << 127 {
+            return self;
+        }
+        let Ok(more) = more else {
+            return Weighed::WIDE;
+        };
+        match self.plus(more) {
+            Ok(sum) => sum,
+            Err(_) => Weighed::WIDE,
+        }
+    }
 
     /// These terms and a number.
     pub fn plus_number(self, number: i128) -> Result<Weighed, Wide>

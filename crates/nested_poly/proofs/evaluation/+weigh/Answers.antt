@@ -6,7 +6,7 @@ use Rattle.binom_poly.specs.Readings.{value_at}
 use Rattle.binom_poly.proofs.Sorting.{zero_of_bits}
 use Rattle.nested_poly.specs.Nodes.{terms_of}
 use Rattle.nested_poly.proofs.Branching.{covered_first, covered_below, lower_overflows, branch_overflows, branch_weighs, Front}
-use Rattle.nested_poly.proofs.Summing.{sum_begins, rest_front, first_of_rest, sum_more, sum_stays, sum_overflows, sum_ends, First}
+use Rattle.nested_poly.proofs.Levels.{sum_begins, rest_front, first_of_rest, sum_more, sum_stays, sum_overflows, sum_ends, First}
 use Rattle.nested_poly.proofs.evaluation.+weigh.Goals as goal
 
 -- ---- a branch

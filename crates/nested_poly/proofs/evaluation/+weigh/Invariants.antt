@@ -1,5 +1,5 @@
 use Rattle.std.proofs.Common.{◌+◌, ◌*◌, length}
-use Rattle.nested_poly.proofs.Summing.{SumSoFar}
+use Rattle.nested_poly.proofs.Levels.{SumSoFar}
 use Rattle.nested_poly.proofs.evaluation.+weigh.Given as goal
 
 abbrev pub decreases-weigh_branch : goal.decreases-weigh_branch

@@ -1,7 +1,7 @@
 use Rattle.std.proofs.Common.{◌≡◌, subst}
 use Rattle.binom_poly.specs.Polynomial.{value_of}
 use Rattle.hall_table.specs.Tabled.{Tabled, IsTabled, poly_at}
-use Rattle.hall_table.specs.Nests.{AreNests}
+use Rattle.nested_poly.specs.Trees.{AreNests}
 use Rattle.hall_table.specs.Tail.{at_level}
 use Rattle.hall_table.proofs.Dropping.{tail_made, IsTabled-tail_of, value_of-tail_of}
 use Rattle.hall_table.proofs.table.Table.tail.Goals as goal
@@ -14,7 +14,7 @@ invariant_of-result c = (
       c.loop-poly.poly-index c.deref.result.now c.loop-poly.polys.items c.self.view_is c.deref.ensures.value
       c.loop-poly.invariant c.loop-poly-test.false)
       (IsTabled-tail_of c.args.self.now c.args.level (subst IsTabled c.self.view_is c.self.invariant.0) c.requires.least c.requires.most),
-  subst (AreNests c.in_ok-nested.nested.items) c.deref-2.ensures.value c.in_ok-nested.ensures,
+  subst (AreNests c.in_ok-forest.forest) c.deref-2.ensures.value c.in_ok-forest.ensures,
 )
 
 pub returns-clause-values : goal.returns-clause-values

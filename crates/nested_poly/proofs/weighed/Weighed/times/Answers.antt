@@ -1,7 +1,7 @@
 use Rattle.std.proofs.Common.{rules, FitsSigned}
 use Rattle.std.specs.Int.{w128}
 use Rattle.std.proofs.lemmas.Int.{to_z-of_z, fits_signed_from_abs}
-use Rattle.nested_poly.proofs.Summing.{product_within, product_weighs}
+use Rattle.nested_poly.proofs.Levels.{product_within, product_weighs}
 use Rattle.nested_poly.proofs.weighed.Weighed.times.Goals as goal
 
 pub overflow_mul-result : goal.overflow_mul-result
