@@ -4,7 +4,7 @@
 ghost use Rattle.std.specs.Prelude.{◌≡◌, [], ◌∷◌, ◌++◌, ℕ, ℤ, List, IfOk, IfErr};
 ghost use Rattle.binom_poly.specs.Monomial.{IsMonomial};
 ghost use Rattle.binom_poly.specs.Polynomial.{value_of};
-ghost use Rattle.binom_poly.specs.Times.{contribution};
+ghost use Rattle.binom_poly.specs.Times.{contribution, product_terms};
 ghost use Rattle.binom_poly.specs.Collected.{collected};
 ghost use Rattle.binom_poly.specs.Sums.{Holds};
 ghost use Rattle.binom_poly.specs.Weight.{DoOverflow};
@@ -13,6 +13,7 @@ ghost use Rattle.binom_poly.specs.declared.term.Term.{Term};
 use crate::fault::{Memory, PolyFault};
 use crate::monomial::Monomial;
 use crate::poly::Poly;
+use crate::product::Product;
 use crate::sums::Sums;
 use nil_num::MAX;
 use std::alloc::Global;
@@ -21,17 +22,19 @@ use std::marker::Model;
 /// The contributions so far: their sums by monomial, and the sums of their magnitudes.
 #[derive(Drop)]
 pub struct Accumulator {
-    sums: Sums,
+    product: Product,
 }
 
 impl Model for Accumulator {
-    ghost use Rattle.std.specs.Prelude.{List};
+    ghost use Rattle.std.specs.Prelude.{List, [], ◌≡◌};
     ghost use Rattle.binom_poly.specs.declared.part.Part.{Part};
     ghost use Rattle.binom_poly.specs.declared.sums.Sum.{Sum};
 
     ghost Value = { List (List Part × Sum) };
 
-    ghost view = { λ a. a.sums };
+    ghost view = { λ a. a.product.sums };
+
+    ghost invariant = { λ a. a.product.prefix.items ≡ [] };
 }
 
 impl Accumulator {
@@ -40,7 +43,10 @@ impl Accumulator {
         ensures { Holds result [] }
     {
         Accumulator {
-            sums: Sums::new(alloc),
+            product: Product {
+                sums: Sums::new(alloc),
+                prefix: Vec::new(alloc),
+            },
         }
     }
 
@@ -63,9 +69,39 @@ impl Accumulator {
         if coefficient < -MAX {
             return Err(PolyFault::Wide);
         }
-        let Accumulator { mut sums } = self;
-        sums.add(alloc, monomial, coefficient)?;
-        Ok(Accumulator { sums })
+        let Accumulator { mut product } = self;
+        product.sums.add(alloc, monomial, coefficient)?;
+        Ok(Accumulator { product })
+    }
+
+    /// Adds the terms of a polynomial: `Wide` exactly where those so far and these overflow. A
+    /// refusal takes the contributions with it.
+    pub fn add_poly(self, alloc: Global, p: &Poly) -> Result<Accumulator, PolyFault>
+        ensures holds { IfOk result (λ more. (cs : List Term) → Holds self cs
+            → Holds more (cs ++ p.now)) }
+        ensures fits { IfOk result (λ _. (cs : List Term) → Holds self cs
+            → ¬ DoOverflow (cs ++ p.now)) }
+        ensures wide { IfErr result (λ fault. fault ≡ PolyFault.Wide → (cs : List Term)
+            → Holds self cs → DoOverflow (cs ++ p.now)) }
+    {
+        let Accumulator { mut product } = self;
+        product.sums.add_terms(alloc, p.terms())?;
+        Ok(Accumulator { product })
+    }
+
+    /// Adds the contributions of the product of two polynomials, which isn't made: `Wide` exactly
+    /// where those so far and these overflow. A refusal takes the contributions with it.
+    pub fn add_product(self, alloc: Global, p: &Poly, q: &Poly) -> Result<Accumulator, PolyFault>
+        ensures holds { IfOk result (λ more. (cs : List Term) → Holds self cs
+            → Holds more (cs ++ product_terms p.now q.now)) }
+        ensures fits { IfOk result (λ _. (cs : List Term) → Holds self cs
+            → ¬ DoOverflow (cs ++ product_terms p.now q.now)) }
+        ensures wide { IfErr result (λ fault. fault ≡ PolyFault.Wide → (cs : List Term)
+            → Holds self cs → DoOverflow (cs ++ product_terms p.now q.now)) }
+    {
+        let Accumulator { mut product } = self;
+        product.add_all(alloc, p.terms(), q.terms())?;
+        Ok(Accumulator { product })
     }
 
     /// The polynomial that the contributions make.
@@ -76,7 +112,8 @@ impl Accumulator {
             → (a : ℕ → ℤ) → value_of a p ≡ value_of a cs) }
         ensures fits { (cs : List Term) → Holds self cs → ¬ DoOverflow cs }
     {
-        let Accumulator { sums } = self;
+        let Accumulator { product } = self;
+        let Product { sums, prefix: _ } = product;
         let terms = sums.into_terms(alloc)?;
         Ok(Poly::of(terms))
     }
