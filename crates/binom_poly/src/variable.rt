@@ -9,6 +9,9 @@ pub const SIDE: u32 = 64;
 /// The variable t of step sums.
 pub const STEP_VARIABLE: u32 = 200;
 
+/// A place for each variable.
+pub const VARIABLES: usize = STEP_VARIABLE as usize + 1;
+
 /// The greatest exponent of a variable in a monomial.
 pub const EXPONENT_LIMIT: u32 = 1000;
 

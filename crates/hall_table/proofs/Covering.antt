@@ -9,6 +9,7 @@ use Rattle.binom_poly.specs.declared.part.Part.{Part}
 use Rattle.binom_poly.specs.declared.term.Term.{Term}
 use Rattle.binom_poly.specs.Monomial.{IsMonomialAbove, exponent_of}
 use Rattle.binom_poly.specs.Polynomial.{IsTerm}
+use Rattle.binom_poly.specs.Exponents.{greatest, greatest_in}
 use Rattle.binom_poly.specs.Reading.{Reading}
 use Rattle.binom_poly.specs.Readings.{width_at, IsCoveredMonomial, IsCovered}
 use Rattle.binom_poly.proofs.Sorting.{polynomial_terms}
@@ -16,7 +17,7 @@ use Rattle.binom_poly.proofs.Unique.{exponent_here, exponent_later}
 use Rattle.binom_poly.specs.Variable.{y_of}
 use Rattle.hall_table.specs.Shape.{alone, is_alone, is_lower, AreLower}
 use Rattle.hall_table.specs.Tabled.{Tabled, IsTabled, last_of, poly_at}
-use Rattle.hall_table.specs.Width.{greatest_exponent, greatest_in, has_row, width_for, HasRows}
+use Rattle.hall_table.specs.Width.{has_row, width_for, HasRows}
 use Rattle.hall_table.proofs.Shapes.{alone_is, not_alone}
 
 -- ---- the variables of a polynomial
@@ -75,13 +76,15 @@ occurs level n v (q ∷ m) h e =
     ]
 
 exponent_within : (v : ℕ) (p : List Term) (i : ℕ) (d : Term) → i < length p
-    → exponent_of (get_or p i d).monomial v ≤ greatest_exponent v p
+    → exponent_of (get_or p i d).monomial v ≤ greatest v p
+unfolding greatest
 exponent_within v [] i d l = absurd (omega arith)
 exponent_within v (t ∷ p) zero d l = omega arith
 exponent_within v (t ∷ p) (suc i) d l = omega (arith, exponent_within v p i d (omega arith))
 
 greatest_within : (v : ℕ) (ps : List (List Term)) (i : ℕ) → i < length ps
-    → greatest_exponent v (get_or ps i []) ≤ greatest_in v ps
+    → greatest v (get_or ps i []) ≤ greatest_in v ps
+unfolding greatest_in
 greatest_within v [] i l = absurd (omega arith)
 greatest_within v (p ∷ ps) zero l = omega arith
 greatest_within v (p ∷ ps) (suc i) l = omega (arith, greatest_within v ps i (omega arith))
@@ -122,7 +125,7 @@ covered t rows k h r low high =
     let row = occurs t.level (last_of t + 1) v (get_or (poly_at t k) i d).monomial (poly_lower t k h low high i d l) e in
     let w : width_at rows v ≡ max (greatest_in v t.polys) 1 + 1 = r.width v ∙ width_for-row t v row in
     let a = exponent_within v (poly_at t k) i d l in
-    let b : greatest_exponent v (poly_at t k) ≤ greatest_in v t.polys = greatest_within v t.polys (k - t.level) (omega arith) in
+    let b : greatest v (poly_at t k) ≤ greatest_in v t.polys = greatest_within v t.polys (k - t.level) (omega arith) in
     omega arith)
 
 row_positive : (t : Tabled) (rows : List Reading) (v : ℕ) → HasRows t rows → has_row t v ≡ true → 0 < width_at rows v

@@ -6,7 +6,6 @@ pub mod Covering
 pub mod Putting
 pub mod Orders
 pub mod Widths
-pub mod Greatest
 pub mod Dropping
 pub mod Splitting
 pub mod Entries

@@ -4,49 +4,18 @@ use Rattle.std.proofs.Common.{◌≡◌, ℕ, ◌+◌, ◌%◌, ◌≤◌, Bool,
 use Rattle.std.specs.Prelude.{max, All}
 use Rattle.std.proofs.lemmas.Bool.{cases_Bool, false≢true, eqb-true}
 use Rattle.std.proofs.lemmas.Bool.Decides.{nat_tests}
-use Rattle.std.proofs.lemmas.List.Elements.{All-head, All-tail, All-push, All-from_get_or}
+use Rattle.std.proofs.lemmas.List.Elements.{All-push}
 use lib.IntN.{pos}
-use Rattle.binom_poly.specs.declared.part.Part.{Part}
 use Rattle.binom_poly.specs.declared.term.Term.{Term}
 use Rattle.binom_poly.specs.declared.top.Top.{Top}
-use Rattle.binom_poly.specs.Monomial.{IsMonomialAbove, IsVariable, exponent_of}
-use Rattle.binom_poly.specs.Polynomial.{IsTerm, IsPolynomial}
+use Rattle.binom_poly.specs.Monomial.{IsVariable}
+use Rattle.binom_poly.specs.Exponents.{greatest_in}
 use Rattle.binom_poly.specs.Reading.{Reading}
 use Rattle.binom_poly.specs.Readings.{width_in, width_of, reading_at}
-use Rattle.binom_poly.proofs.Sorting.{polynomial_terms}
 use Rattle.binom_poly.specs.Variable.{y_of}
 use Rattle.hall_table.specs.Shape.{is_lower}
 use Rattle.hall_table.specs.Tabled.{Tabled, IsTabled, last_of}
-use Rattle.hall_table.specs.Width.{greatest_exponent, greatest_in, HasRows}
-
--- ---- exponents are at most 1000
-exponent-small : (low : ℕ) (m : List Part) (v : ℕ) → IsMonomialAbove low m → exponent_of m v ≤ 1000
-unfolding exponent_of IsMonomialAbove
-exponent-small low [] v h = omega arith
-exponent-small low (q ∷ m) v h =
-    elim (eqb q.var v) as (λ b. cond b q.exp (exponent_of m v) ≤ 1000) [
-      | true ↦ h.3
-      | false ↦ exponent-small q.var m v h.4
-    ]
-
-greatest_exponent-small : (v : ℕ) (p : List Term) → All IsTerm p → greatest_exponent v p ≤ 1000
-greatest_exponent-small v [] h = omega arith
-greatest_exponent-small v (t ∷ p) h =
-    let here = exponent-small 0 t.monomial v (All-head IsTerm t p h).monomial in
-    let rest = greatest_exponent-small v p (All-tail IsTerm t p h) in
-    omega arith
-
-pub greatest_in-small : (v : ℕ) (ps : List (List Term)) → All IsPolynomial ps → greatest_in v ps ≤ 1000
-greatest_in-small v [] h = omega arith
-greatest_in-small v (p ∷ ps) h =
-    let here = greatest_exponent-small v p (polynomial_terms p (All-head IsPolynomial p ps h)) in
-    let rest = greatest_in-small v ps (All-tail IsPolynomial p ps h) in
-    omega arith
-
-pub top-small : (v : ℕ) (t : Tabled) → IsTabled t → max (greatest_in v t.polys) 1 ≤ 1000
-top-small v t h =
-    let small = greatest_in-small v t.polys (All-from_get_or IsPolynomial t.polys [] h.forms) in
-    omega arith
+use Rattle.hall_table.specs.Width.{HasRows}
 
 -- ---- variables
 pub x_variable : (k : ℕ) → 1 ≤ k → k ≤ 48 → IsVariable k
@@ -71,6 +40,15 @@ width_below t k v = cond (is_lower t.level k v) (max (greatest_in v t.polys) 1 +
 
 abbrev pub top_of : Tabled → ℕ → Top
 top_of t v = record { var = v; top = max (greatest_in v t.polys) 1 }
+
+pub top_is : (t : Tabled) (v g : ℕ) (ps : List (List Term)) (x : Top) → x ≡ record { var = v; top = max g 1 }
+    → g ≡ greatest_in v ps → ps ≡ t.polys → x ≡ top_of t v
+top_is t v g ps x e f n =
+    e ∙ ap (λ (m : ℕ). record { var = v; top = max m 1 }) (f ∙ ap (greatest_in v) n)
+
+pub greatest_in-small : (t : Tabled) (ps : List (List Term)) → ((v : ℕ) → greatest_in v ps ≤ 1000) → ps ≡ t.polys
+    → (v : ℕ) → greatest_in v t.polys ≤ 1000
+greatest_in-small t ps h e v = subst (λ (qs : List (List Term)). greatest_in v qs ≤ 1000) e (h v)
 
 width_below-other : (t : Tabled) (k v : ℕ) → eqb k v ≡ false → eqb (y_of k) v ≡ false
     → is_lower t.level k v ≡ is_lower t.level (k + 1) v
@@ -111,12 +89,6 @@ width_below-none t v =
     none : is_lower t.level t.level v ≡ false
     none = grind (arith, nat_tests)
 
-pub top_is_small : (v m g level : ℕ) (now ps : List (List Term)) → m ≡ max g 1 → g ≡ greatest_in v now → now ≡ ps
-    → IsTabled record { level = level; polys = ps } → m ≤ 1000
-top_is_small v m g level now ps e f n h =
-    subst (λ (k : ℕ). k ≤ 1000) (sym (e ∙ ap (λ (k : ℕ). max k 1) (f ∙ ap (greatest_in v) n)))
-    (top-small v record { level = level; polys = ps } h)
-
 -- ---- the loop over the generators
 pub record TopsSoFar (t : Tabled) (k : ℕ) (ts : List Top) : Type 0 where
   pub variables : All (λ u. IsVariable u.var × (u.top ≤ 1000)) ts
@@ -130,10 +102,11 @@ tops_begin t k ts e n = record {
       ∙ sym (ap (λ (j : ℕ). width_below t j v) e ∙ width_below-none t v);
 }
 
-pub tops_more : (t : Tabled) (k : ℕ) (ts one two : List Top) (x y : Top) → IsTabled t → t.level ≤ k → k ≤ last_of t
+pub tops_more : (t : Tabled) (k : ℕ) (ts one two : List Top) (x y : Top) → IsTabled t
+    → ((v : ℕ) → greatest_in v t.polys ≤ 1000) → t.level ≤ k → k ≤ last_of t
     → TopsSoFar t k ts → x ≡ top_of t k → y ≡ top_of t (y_of k) → one ≡ ts ++ x ∷ [] → two ≡ one ++ y ∷ []
     → TopsSoFar t (k + 1) two
-tops_more t k ts one two x y h low high s e f g i =
+tops_more t k ts one two x y h small low high s e f g i =
     let positive : 1 ≤ t.level = h.least in
     let most : t.level + length t.polys ≤ 49 = h.most in
     let Fits : Top → Type 0 = λ u. IsVariable u.var × (u.top ≤ 1000) in
@@ -143,8 +116,8 @@ tops_more t k ts one two x y h low high s e f g i =
       variables =
           subst (All Fits) (sym whole)
           (All-push Fits (ts ++ top_of t k ∷ []) (top_of t (y_of k))
-          (All-push Fits ts (top_of t k) s.variables (x_variable k (omega arith) (omega arith), top-small k t h))
-          (y_variable k (omega arith) (omega arith), top-small (y_of k) t h));
+          (All-push Fits ts (top_of t k) s.variables (x_variable k (omega arith) (omega arith), omega (arith, small k)))
+          (y_variable k (omega arith) (omega arith), omega (arith, small (y_of k))));
       widths = λ v. ap (λ us. width_of us v) whole ∙ width_below-more t k v ts low (s.widths v);
     }
 

@@ -1,26 +1,15 @@
 -- Which rows a table needs: one for each x_k and y_k, up to its greatest exponent in the table, and
 -- at least 1.
---   greatest_exponent v p   the greatest exponent of v in a polynomial, and 0 where v isn't in it
---   greatest_in v ps        the greatest in a list of polynomials
---   has_row t v             v is x_k or y_k of a generator from the level on
---   width_for t v           how many places the row of v has: its top plus 1, and 0 without a row
---   HasRows t rows          the rows have exactly these variables and tops
--- v variable · p polynomial · t table
-use Rattle.std.specs.Prelude.{◌≡◌, ℕ, ◌+◌, Bool, max, List, [], ◌∷◌, if◌then◌else◌}
-use Rattle.binom_poly.specs.declared.term.Term.{Term}
-use Rattle.binom_poly.specs.Monomial.{exponent_of}
+--   has_row t v      v is x_k or y_k of a generator from the level on
+--   width_for t v    how many places the row of v has: its top plus 1, and 0 without a row
+--   HasRows t rows   the rows have exactly these variables and tops
+-- v variable · t table
+use Rattle.std.specs.Prelude.{◌≡◌, ℕ, ◌+◌, Bool, max, List, if◌then◌else◌}
+use Rattle.binom_poly.specs.Exponents.{greatest_in}
 use Rattle.binom_poly.specs.Reading.{Reading}
 use Rattle.binom_poly.specs.Readings.{width_at}
 use Rattle.hall_table.specs.Shape.{is_lower}
 use Rattle.hall_table.specs.Tabled.{Tabled, last_of}
-
-abbrev pub greatest_exponent : ℕ → List Term → ℕ
-greatest_exponent v [] = 0
-greatest_exponent v (t ∷ ts) = max (exponent_of t.monomial v) (greatest_exponent v ts)
-
-abbrev pub greatest_in : ℕ → List (List Term) → ℕ
-greatest_in v [] = 0
-greatest_in v (p ∷ ps) = max (greatest_exponent v p) (greatest_in v ps)
 
 abbrev pub has_row : Tabled → ℕ → Bool
 has_row t v = is_lower t.level (last_of t + 1) v

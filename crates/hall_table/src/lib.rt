@@ -15,7 +15,6 @@ mod table_of_fault;
 mod tailing;
 #[cfg(test)]
 mod tests;
-mod tops;
 #[cfg(test)]
 mod tree_tests;
 mod wide_at;

@@ -13,10 +13,11 @@ use Rattle.binom_poly.specs.declared.term.Term.{Term}
 use Rattle.binom_poly.specs.Monomial.{IsMonomialAbove, IsMonomial, exponent_of}
 use Rattle.binom_poly.specs.Polynomial.{monomial_value, value_of, IsTerm, IsPolynomial, IsPolynomialFrom}
 use Rattle.binom_poly.specs.Collected.{constant_terms, sum_of, product_of}
+use Rattle.binom_poly.specs.Exponents.{greatest}
 use Rattle.binom_poly.proofs.Unique.{rest_is, exponent_here, exponent_later, exponent_low}
 use Rattle.binom_poly.proofs.Canonical.{first_term, all_monomials, polynomial-nothing, value-constant_terms, constant_terms-other, polynomial-constant}
 use Rattle.poly_subst.specs.declared.assign.Assign.{Assign}
-use Rattle.poly_subst.specs.Substitute.{assigned, value_by, replaced, factor_by, factor_of, expanded, ExpandOverflows, term_of, summed_from, SumsOverflow, greatest, RowsOverflow, substituted, SubstituteOverflows}
+use Rattle.poly_subst.specs.Substitute.{assigned, value_by, replaced, factor_by, factor_of, expanded, ExpandOverflows, term_of, summed_from, SumsOverflow, RowsOverflow, substituted, SubstituteOverflows}
 use Rattle.identity_check.specs.Assigned.{ArePolynomials}
 use Rattle.identity_check.proofs.Products.{polynomial-sum_of, polynomial-product_of}
 use Rattle.identity_check.proofs.Choosing.{value-sum_of, value-product_of, IsChoice, choice_up_to}

@@ -1,5 +1,6 @@
 use Rattle.std.proofs.Common.{◌<◌, ◌∙◌, length, sym, subst, arith}
-use Rattle.poly_subst.specs.Substitute.{greatest, RowsOverflow}
+use Rattle.binom_poly.specs.Exponents.{greatest}
+use Rattle.poly_subst.specs.Substitute.{RowsOverflow}
 use Rattle.poly_subst.specs.Choose.{ChooseOverflows}
 use Rattle.binom_poly.proofs.Refusals.{refuses_passed}
 use Rattle.poly_subst.proofs.Placing.{length-rows, row_at, rows-set, reach_more, reach_all}

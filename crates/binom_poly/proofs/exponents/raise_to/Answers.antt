@@ -3,8 +3,8 @@ use Rattle.std.proofs.Math.ListN.{length-set}
 use Rattle.std.proofs.lemmas.List.{get_or_default}
 use Rattle.binom_poly.specs.declared.part.Part.{Part}
 use Rattle.binom_poly.specs.Monomial.{exponent_of}
-use Rattle.poly_subst.proofs.Greatest.{number_raised, own_variable}
-use Rattle.poly_subst.proofs.exponents.raise_to.Goals as goal
+use Rattle.binom_poly.proofs.Greatest.{number_raised, own_variable}
+use Rattle.binom_poly.proofs.exponents.raise_to.Goals as goal
 
 pub loop-part-init : goal.loop-part-init
 unfolding exponent_of

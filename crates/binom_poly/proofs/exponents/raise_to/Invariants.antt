@@ -1,6 +1,6 @@
 use Rattle.std.proofs.Common.{◌≡◌, ℕ, length, get_or, take, max}
 use Rattle.binom_poly.specs.Monomial.{exponent_of}
-use Rattle.poly_subst.proofs.exponents.raise_to.Given as goal
+use Rattle.binom_poly.proofs.exponents.raise_to.Given as goal
 
 abbrev pub invariant-loop-part : goal.invariant-loop-part
 invariant-loop-part l = record {
