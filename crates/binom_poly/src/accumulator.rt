@@ -141,4 +141,20 @@ mod tests {
         }
         Ok(())
     }
+
+    #[test]
+    fn a_product_and_a_polynomial(rt: HostRuntime) -> Result<(), Fail> {
+        let alloc = rt.alloc();
+        let x = var(alloc, 1)?;
+        let more = add(alloc, &x, &constant(alloc, 1)?)?;
+        let sum = Accumulator::new(alloc)
+            .add_product(alloc, &x, &more)?
+            .add_poly(alloc, &more)?
+            .add_product(alloc, &constant(alloc, -3)?, &x)?;
+        // (x + 1)^2 - 3*x is 1 + 2*C(x,2)
+        let pairs = mul(alloc, &x, &add(alloc, &x, &constant(alloc, -1)?)?)?;
+        let expected = add(alloc, &constant(alloc, 1)?, &pairs)?;
+        assert!(rt; same(&sum.into_poly(alloc)?, &expected));
+        Ok(())
+    }
 }
