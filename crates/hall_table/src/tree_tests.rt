@@ -1,28 +1,39 @@
 //! Products by a table whose terms share parts, some of which are 0.
 
 ghost use Rattle.std.specs.Prelude.{◌≡◌, length, IfOk};
-ghost use Rattle.nil_num.specs.Bound.{IsNumber};
+ghost use Rattle.hall_table.specs.Tabled.{last_of};
+ghost use Rattle.hall_table.specs.Width.{HasRows};
 
+use crate::tests::{plus, sum, times, vector, x, y};
 use crate::*;
-use binom_poly::{Accumulator, Poly, add, mul, var, y_of};
+use binom_poly::{Accumulator, Poly, Rows};
 use nil_word::Vector;
 use std::alloc::Global;
 use std::test::Fail;
 
 const MAX: i128 = i128::MAX;
 
-/// `x2 + y2 + MAX*x1*y1 + MAX*x1*C(y1,2)`.
-fn second(alloc: Global) -> Result<Poly, Fail> {
-    let y1 = var(alloc, y_of(1))?;
-    let products = mul(alloc, &var(alloc, 1)?, &mul(alloc, &y1, &y1)?)?;
+/// `x1*y1 + 2*x1*C(y1,2)`.
+fn products(alloc: Global) -> Result<Poly, Fail> {
+    let square = times(alloc, y(alloc, 1)?, y(alloc, 1)?)?;
+    times(alloc, x(alloc, 1)?, square)
+}
+
+/// The sum of the monomials of a polynomial, each with the coefficient MAX.
+fn with_greatest(alloc: Global, p: &Poly) -> Result<Poly, Fail> {
     let mut sum = Accumulator::new(alloc);
-    for term in products.terms() {
+    for term in p.terms() {
         let monomial = term.monomial.copy(alloc)?;
         sum = sum.add(alloc, &monomial, MAX)?;
     }
-    let own = add(alloc, &var(alloc, 2)?, &var(alloc, y_of(2))?)?;
-    let second = add(alloc, &own, &sum.into_poly(alloc)?)?;
-    Ok(second)
+    let poly = sum.into_poly(alloc)?;
+    Ok(poly)
+}
+
+/// `x2 + y2 + MAX*x1*y1 + MAX*x1*C(y1,2)`.
+fn second(alloc: Global) -> Result<Poly, Fail> {
+    let products = products(alloc)?;
+    plus(alloc, sum(alloc, 2)?, with_greatest(alloc, &products)?)
 }
 
 /// The table of `x1 + y1` and `second`.
@@ -31,32 +42,50 @@ fn table(alloc: Global) -> Result<Table, Fail>
     ensures last { IfOk result (λ t. length t.polys ≡ 2) }
 {
     let mut polys = Vec::new(alloc);
-    polys.push(add(alloc, &var(alloc, 1)?, &var(alloc, y_of(1))?)?)?;
+    polys.push(sum(alloc, 1)?)?;
     polys.push(second(alloc)?)?;
     let table = Table::of(alloc, 1, polys)?;
     Ok(table)
 }
 
-/// The second entry of the product of `x1 x2` and `y1 y2`.
-fn entry(alloc: Global, x1: i128, x2: i128, y1: i128, y2: i128) -> Result<Option<i128>, Fail>
-    requires first { IsNumber x1 }
-    requires second { IsNumber x2 }
-    requires third { IsNumber y1 }
-    requires fourth { IsNumber y2 }
+/// The second entry of a product, which is written over `out`.
+fn written(table: &Table, rows: &mut Rows, a: &Vector, b: &Vector, out: &mut Vector) -> Option<i128>
+    requires last { last_of table.now ≡ 2 }
+    requires left { length a.now ≡ 2 }
+    requires right { length b.now ≡ 2 }
+    requires out { length out.old ≡ 2 }
+    requires rows { HasRows table.now rows.old }
 {
+    match table.multiply_into(rows, a, b, out) {
+        Ok(()) => Some(out.at(2)),
+        Err(_) => None,
+    }
+}
+
+/// The same for the product of the vectors of these entries.
+fn product(
+    alloc: Global,
+    table: &Table,
+    rows: &mut Rows,
+    a: &[i128],
+    b: &[i128],
+) -> Result<Option<i128>, Fail>
+    requires last { last_of table.now ≡ 2 }
+    requires left { length a.now ≡ 2 }
+    requires right { length b.now ≡ 2 }
+    requires rows { HasRows table.now rows.old }
+{
+    let a = vector(alloc, a)?;
+    let b = vector(alloc, b)?;
+    let mut out = Vector::zero(alloc, 2)?;
+    Ok(written(table, rows, &a, &b, &mut out))
+}
+
+/// The second entry of the product of `x1 x2` and `y1 y2`.
+fn entry(alloc: Global, x1: i128, x2: i128, y1: i128, y2: i128) -> Result<Option<i128>, Fail> {
     let table = table(alloc)?;
     let mut rows = table.rows(alloc)?;
-    let mut a = Vector::zero(alloc, 2)?;
-    a.set(1, x1);
-    a.set(2, x2);
-    let mut b = Vector::zero(alloc, 2)?;
-    b.set(1, y1);
-    b.set(2, y2);
-    let mut out = Vector::zero(alloc, 2)?;
-    match table.multiply_into(&mut rows, &a, &b, &mut out) {
-        Ok(()) => Ok(Some(out.at(2))),
-        Err(_) => Ok(None),
-    }
+    product(alloc, &table, &mut rows, &[x1, x2], &[y1, y2])
 }
 
 #[test]
