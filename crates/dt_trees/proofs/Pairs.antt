@@ -15,7 +15,9 @@ use Rattle.dt_trees.specs.Ways.{stack_in, grown_in, IsWay, AreWays, Gains, FitsF
 use Rattle.dt_trees.proofs.Each.{each-upto}
 use Rattle.dt_trees.proofs.Small.{IsWithin, grown-within, all_below-more, steps-least, steps-more, steps-node, steps-small}
 use Rattle.dt_trees.proofs.Stacks.{trees-kept, stack-kept, stack-push}
-use Rattle.dt_trees.proofs.Gaining.{gains-trans, gains-before, gains-same, way-kept}
+use Rattle.dt_letters.proofs.Different.{extended-refl}
+use Rattle.dt_trees.proofs.Low.{pair-low}
+use Rattle.dt_trees.proofs.Gaining.{gains-nothing, gains-trans, gains-before, gains-same, way-kept}
 
 -- the left letter is pushed
 
@@ -101,6 +103,13 @@ gains-pair a b d x ws us lefts level k p q c ts is some ways gains =
     (ap (λ (r : Presented). each (rights_of (exponents_of r) level q k c) (map (grown_in b) lefts)) x.0
     ∙ ap (each (rights_of e level q k c)) ways.are ∙ ap f is
     ∙ ap (λ (z : Bool). if z then [] else f (e q p k)) (sym nonzero)) gains)
+
+-- a right letter below the level
+pub gains-low : (a : Arena) (ws : List Grown) (level k p q : ℕ) (ts : List Letter) → q < level
+    → Gains a ws a ws (pair_ways (exponents_of a.pres) level ts k p q)
+gains-low a ws level k p q ts low =
+    gains-same a a ws ws [] (pair_ways (exponents_of a.pres) level ts k p q)
+    (sym (pair-low (exponents_of a.pres) level ts k p q low)) (gains-nothing a a ws (extended-refl a))
 
 pub pair-kept : (a b : Arena) → IsExtended a b → (level k p q : ℕ) (ts : List Tree) → All (IsTreeOf a) ts
     → pair_ways (exponents_of b.pres) level (stack_in b ts) k p q

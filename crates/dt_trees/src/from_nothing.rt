@@ -36,6 +36,10 @@ fn grow_known_pair(
     ensures gains { OnOk result (Gains letters.old ways.old.items letters.new ways.new.items
         (pair_ways (exponents_of letters.old.pres) level [] k p q)) }
 {
+    // Nothing grows by such a right letter.
+    if q < level {
+        return Ok(());
+    }
     let limit = letters.exponent(q, p, k);
     if limit == 0 {
         return Ok(());

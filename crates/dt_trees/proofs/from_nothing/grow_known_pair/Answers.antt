@@ -7,7 +7,7 @@ use Rattle.dt_letters.specs.Listing.{each}
 use Rattle.dt_letters.proofs.Different.{extended-refl}
 use Rattle.dt_trees.specs.Ways.{grown_in, Gains, FitsFor, rights_of, pair_ways}
 use Rattle.dt_trees.proofs.Gaining.{on_ok}
-use Rattle.dt_trees.proofs.Pairs.{lefts-small, gains-pair}
+use Rattle.dt_trees.proofs.Pairs.{lefts-small, gains-pair, gains-low}
 use Rattle.dt_trees.proofs.from_nothing.grow_known_pair.Goals as goal
 
 pub grow_rights-requires-clause-small : goal.grow_rights-requires-clause-small
@@ -15,6 +15,11 @@ grow_rights-requires-clause-small c =
     subst (All (FitsFor c.args.q)) (sym c.requires.lefts.are)
     (lefts-small (exponents_of c.args.letters.now.pres) c.args.level c.args.k c.args.p c.args.q [] c.requires.most
     c.requires.below (omega arith) tt)
+
+pub returns-then-q-level-clause-gains : goal.returns-then-q-level-clause-gains
+returns-then-q-level-clause-gains c =
+    gains-low c.args.letters.now c.args.ways.now.items c.args.level c.args.k c.args.p c.args.q []
+    (omega (arith, c.if-q-level.true))
 
 pub returns-clause-gains : goal.returns-clause-gains
 returns-clause-gains c =

@@ -15,7 +15,7 @@ use Rattle.dt_trees.proofs.Small.{all_below-more}
 use Rattle.dt_trees.proofs.Stacks.{trees-kept, small-kept}
 use Rattle.dt_trees.proofs.Gaining.{gains-before, gains-same, ways-gained, on_ok}
 use Rattle.dt_trees.proofs.Joining.{way-at, grew-at, gains-each-next}
-use Rattle.dt_trees.proofs.Pairs.{pushed-trees, pushed-stack, rights-small, lefts-small, half-small, rights-same, gains-pair, pair-kept, next-joined, gains-joined}
+use Rattle.dt_trees.proofs.Pairs.{pushed-trees, pushed-stack, rights-small, lefts-small, half-small, rights-same, gains-pair, gains-low, pair-kept, next-joined, gains-joined}
 use Rattle.dt_trees.proofs.growing.+grow.Goals as goal
 
 pub grow-returns-then-k-level-clause-ways : goal.grow-returns-then-k-level-clause-ways
@@ -115,6 +115,11 @@ grow-returns-clause-ways t c =
     ∙ sym (grown-ways (exponents_of a.pres) c.args.level c.requires.level ts c.args.k c.requires.least))
     (ways-gained a c.loop-p.letters c.loop-p.ways.items (leaves ++ each row (upto (c.loop-p.p - 1)))
     c.loop-p.invariant.gains)
+
+pub grow_pair-returns-then-q-level-clause-gains : goal.grow_pair-returns-then-q-level-clause-gains
+grow_pair-returns-then-q-level-clause-gains t c =
+    gains-low c.args.letters.now c.args.ways.now.items c.args.level c.args.k c.args.p c.args.q
+    (stack_in c.args.letters.now c.args.stack.now) (omega (arith, c.if-q-level.true))
 
 pub grow_pair-grow-requires : goal.grow_pair-grow-requires
 grow_pair-grow-requires t c = (
