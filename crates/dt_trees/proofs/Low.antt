@@ -50,11 +50,3 @@ module _ (e : Exponents) (level : ℕ) where
       (each-none (rights_of e level q k (e q p k)) (grown e level p ts p)
       (λ left _. ap (each (λ right. joined e k (e q p k) right.tree right.list))
       (grown-low q (left.tree ∷ left.list) q h)))
-
-  pub pairs-low : (ts : List Letter) (k : ℕ)
-      → each (λ p. each (λ q. pair_ways e level ts k p q) (upto (p - 1))) (upto (level - 1)) ≡ []
-  pairs-low ts k =
-      each-none (λ p. each (λ q. pair_ways e level ts k p q) (upto (p - 1))) (upto (level - 1))
-      (λ p a. let r = in-upto-range p (level - 1) a in
-      each-none (λ q. pair_ways e level ts k p q) (upto (p - 1))
-      (λ q b. let s = in-upto-range q (p - 1) b in pair-low ts k p q (omega (arith, r.1, s.0, s.1))))

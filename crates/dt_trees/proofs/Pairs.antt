@@ -117,20 +117,3 @@ pub pair-kept : (a b : Arena) → IsExtended a b → (level k p q : ℕ) (ts : L
 pair-kept a b x level k p q ts h =
     let f : Presented → List Letter → List Grew = λ r ls. pair_ways (exponents_of r) level ls k p q in
     ap (λ (r : Presented). f r (stack_in b ts)) x.0 ∙ ap (f a.pres) (stack-kept a b x ts h)
-
--- the next number of joined lists
-pub next-joined : (xs : List Grew) (f : ℕ → List Grew) (n m i : ℕ) → suc m ≡ n → i ≡ n
-    → (xs ++ each f (upto m)) ++ f n ≡ xs ++ each f (upto i)
-next-joined xs f n m i e s =
-    ap (λ (z : ℕ). (xs ++ each f (upto m)) ++ f z) (sym e)
-    ∙ append_assoc xs (each f (upto m)) (f (suc m))
-    ∙ ap (λ (zs : List Grew). xs ++ zs) (sym (each-upto f m))
-    ∙ ap (λ (z : ℕ). xs ++ each f (upto z)) (e ∙ sym s)
-
-pub gains-joined : (a b d : Arena) (ws vs us : List Grown) (xs more : List Grew) (f : ℕ → List Grew)
-    (n m i : ℕ) → suc m ≡ n → i ≡ n → more ≡ f n → Gains a ws b vs (xs ++ each f (upto m))
-    → Gains b vs d us more → Gains a ws d us (xs ++ each f (upto i))
-gains-joined a b d ws vs us xs more f n m i e s same p q =
-    gains-same a d ws us ((xs ++ each f (upto m)) ++ f n) (xs ++ each f (upto i))
-    (next-joined xs f n m i e s)
-    (gains-trans a b d ws vs us (xs ++ each f (upto m)) (f n) p (gains-same b d vs us more (f n) same q))

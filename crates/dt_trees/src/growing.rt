@@ -209,10 +209,11 @@ fn grow(
         return Ok(ways);
     }
     place_leaves(alloc, letters, level, k, stack, &mut ways)?;
-    for p in 1..k {
-        for q in 1..p {
-            grow_pair(alloc, letters, level, stack, p, q, k, &mut ways)?;
-        }
+    for place in 0..letters.pairs(k).len() {
+        let pair = letters.pairs(k)[place];
+        grow_pair(
+            alloc, letters, level, stack, pair.left, pair.right, k, &mut ways,
+        )?;
     }
     Ok(ways)
 }
