@@ -1,6 +1,6 @@
 -- Growing by a left and a right letter, over an arena.
 --   a b d arenas · w left way · ws vs us ways · ts now stacks · e exponents · k p q types · c limit
-use Rattle.std.proofs.Common.{◌≡◌, ◌≢◌, ℕ, zero, suc, ◌+◌, ◌-◌, ◌<◌, ◌≤◌, ◌^◌, List, [], ◌∷◌, ◌++◌, map, refl, sym, ap, ◌∙◌, subst, arith, append_assoc, Bool, false, ℤ, pos, negsuc, if◌then◌else◌}
+use Rattle.std.proofs.Common.{◌≡◌, ◌≢◌, ℕ, zero, suc, ◌+◌, ◌-◌, ◌<◌, ◌≤◌, ◌^◌, List, [], ◌∷◌, ◌++◌, map, refl, sym, ap, ◌∙◌, subst, arith, Bool, false, ℤ, pos, negsuc, if◌then◌else◌}
 use Rattle.std.specs.Prelude.{All}
 use Rattle.std.proofs.lemmas.List.Elements.{All-push}
 use Rattle.nil_pres.specs.Presented.{Presented}
@@ -8,16 +8,15 @@ use Rattle.dt_letters.specs.declared.tree.Tree.{Tree}
 use Rattle.dt_letters.specs.Letters.{Letter}
 use Rattle.dt_letters.specs.Allowed.{Exponents, exponents_of}
 use Rattle.dt_letters.specs.Growth.{AreBelow, most_steps}
-use Rattle.dt_letters.specs.Listing.{Grew, each, grown, is_zero, joined, upto}
+use Rattle.dt_letters.specs.Listing.{Grew, each, grown, is_zero, joined}
 use Rattle.dt_letters.specs.Arena.{Arena, IsTreeOf, IsExtended}
 use Rattle.dt_trees.specs.declared.grown.Grown.{Grown}
 use Rattle.dt_trees.specs.Ways.{stack_in, grown_in, IsWay, AreWays, Gains, FitsFor, IsSmall, rights_of, pair_ways}
-use Rattle.dt_trees.proofs.Each.{each-upto}
 use Rattle.dt_trees.proofs.Small.{IsWithin, grown-within, all_below-more, steps-least, steps-more, steps-node, steps-small}
 use Rattle.dt_trees.proofs.Stacks.{trees-kept, stack-kept, stack-push}
 use Rattle.dt_letters.proofs.Different.{extended-refl}
 use Rattle.dt_trees.proofs.Low.{pair-low}
-use Rattle.dt_trees.proofs.Gaining.{gains-nothing, gains-trans, gains-before, gains-same, way-kept}
+use Rattle.dt_trees.proofs.Gaining.{gains-nothing, gains-before, gains-same, way-kept}
 
 -- the left letter is pushed
 

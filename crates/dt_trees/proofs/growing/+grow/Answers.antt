@@ -1,5 +1,5 @@
 -- Growing by types, pair by pair and left letter by left letter.
-use Rattle.std.proofs.Common.{◌≡◌, ℕ, ◌^◌, ◌+◌, ◌-◌, ◌∙◌, List, [], ◌++◌, length, get_or, take, map, sym, ap, subst, arith, rules, ℤ, w64, to_z, of_z, FitsSigned}
+use Rattle.std.proofs.Common.{◌≡◌, ◌^◌, ◌-◌, ◌∙◌, List, [], ◌++◌, length, get_or, take, map, sym, ap, subst, arith, rules, ℤ, w64, to_z, of_z, FitsSigned}
 use Rattle.std.specs.Prelude.{All, OnOk}
 use Rattle.std.proofs.lemmas.Int.{to_z-of_z}
 use Rattle.std.proofs.lemmas.List.{take_all}
