@@ -10,9 +10,8 @@ use Rattle.nil_pres.specs.Relations.{is_pair}
 use Rattle.nil_pres.specs.Rights.{IsRight}
 use Rattle.dt_letters.specs.declared.pair.Pair.{Pair}
 use Rattle.dt_letters.specs.Allowed.{Exponents, exponent_in, exponents_of}
-use Rattle.dt_letters.specs.Listing.{each, is_zero, upto, IsIn}
-use Rattle.dt_letters.specs.Pairs.{row_in, named, pair_of, pairs_up_to, pairs_of, HasPairs}
-use Rattle.dt_letters.proofs.Once.{in-upto-range}
+use Rattle.dt_letters.specs.Listing.{each, is_zero, upto}
+use Rattle.dt_letters.specs.Pairs.{row_in, named, pair_of, pairs_up_to, pairs_of}
 use Rattle.dt_letters.proofs.Presentations.{rising}
 
 -- rows

@@ -1,7 +1,5 @@
 -- The row of the type.
-use Rattle.std.proofs.Common.{◌≡◌, List, sym, ap, ◌∙◌, arith}
-use Rattle.nil_pres.specs.Presented.{Presented}
-use Rattle.dt_letters.specs.declared.pair.Pair.{Pair}
+use Rattle.std.proofs.Common.{sym, ap, ◌∙◌, arith}
 use Rattle.dt_letters.specs.Allowed.{exponents_of}
 use Rattle.dt_letters.specs.Arena.{Arena}
 use Rattle.dt_letters.specs.Pairs.{pairs_of}

@@ -1,8 +1,6 @@
 -- Pair by pair, and then the pairs of all types are those of the types below each.
-use Rattle.std.proofs.Common.{◌≡◌, ℕ, ◌+◌, ◌-◌, ◌++◌, sym, ap, ◌∙◌, arith}
-use Rattle.nil_pres.specs.Presented.{IsPresented}
+use Rattle.std.proofs.Common.{◌+◌, ◌-◌, ◌∙◌, arith}
 use Rattle.dt_letters.specs.Allowed.{exponents_of}
-use Rattle.dt_letters.specs.Listing.{each, upto}
 use Rattle.dt_letters.specs.Pairs.{row_in, pairs_up_to}
 use Rattle.dt_letters.proofs.Paired.{pair-next, rows-next, pairs-all}
 use Rattle.dt_letters.proofs.letters.pairing.all_pairs.Goals as goal

@@ -1,5 +1,5 @@
 -- A row without pairs more.
-use Rattle.std.proofs.Common.{◌≡◌, ℕ, [], ◌∷◌, length, length-append, sym, ap, ◌∙◌, subst, arith}
+use Rattle.std.proofs.Common.{[], ◌∷◌, length, length-append, ap, ◌∙◌, arith}
 use Rattle.std.specs.Prelude.{List, Vec}
 use Rattle.std.specs.declared.alloc.Global.{Global}
 use Rattle.dt_letters.specs.declared.pair.Pair.{Pair}

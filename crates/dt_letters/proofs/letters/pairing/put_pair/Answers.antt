@@ -1,5 +1,5 @@
 -- The row of the syllable's type has the pair behind, and the others stay.
-use Rattle.std.proofs.Common.{◌≡◌, ◌∷◌, [], ◌++◌, ◌<◌, length, length-set, get_or, pos, refl, sym, ap, ◌∙◌, arith}
+use Rattle.std.proofs.Common.{◌∷◌, [], ◌++◌, ◌<◌, length, length-set, get_or, pos, refl, sym, ap, ◌∙◌, arith}
 use Rattle.std.specs.Prelude.{List}
 use Rattle.nil_pres.specs.declared.syllable.Syllable.{Syllable}
 use Rattle.dt_letters.specs.declared.pair.Pair.{Pair}
