@@ -22,9 +22,6 @@ module _ {A B : Type 0} where
       ap (λ (z : List B). z ++ each f xs) (h x (inl refl))
       ∙ ap (λ (z : List B). g x ++ z) (each-same f g xs (λ y p. h y (inr p)))
 
-pub each-upto : {B : Type 0} (f : ℕ → List B) (n : ℕ) → each f (upto (suc n)) ≡ each f (upto n) ++ f (suc n)
-each-upto f n = each-push f (upto n) (suc n)
-
 pub map-upto : {B : Type 0} (f : ℕ → B) (n : ℕ)
     → map f (upto (suc n)) ≡ map f (upto n) ++ f (suc n) ∷ []
 map-upto f n = map-append f (upto n) (suc n ∷ [])

@@ -30,6 +30,13 @@ known-at a b x level wss h p i ways now e lt is same =
     (subst (λ (ls : List Grown). AreWays a ls (from a.pres (level + i))) (sym same) here) in
     subst (λ (r : Presented). AreWays b now (from r p)) (sym x.0) (ways-kept a b x now (from a.pres p) there)
 
+pub known-kept : (a b : Arena) → IsExtended a b → (level : ℕ) (wss : List (Vec Grown Global))
+    → AreKnown a (exponents_of a.pres) level wss → AreKnown b (exponents_of b.pres) level wss
+known-kept a b x level wss h i d lt =
+    let from : Presented → List Grew = λ r. grown (exponents_of r) level (level + i) [] (level + i) in
+    subst (λ (r : Presented). AreWays b (get_or wss i d).items (from r)) (sym x.0)
+    (ways-kept a b x (get_or wss i d).items (from a.pres) (h i d lt))
+
 pub known-none : (a : Arena) (e : Exponents) (level : ℕ) → AreKnown a e level []
 known-none a e level i d lt = absurd (omega (arith, lt))
 

@@ -8,6 +8,7 @@ pub mod Gaining
 pub mod Knowing
 pub mod Joining
 pub mod Pairs
+pub mod Visited
 pub mod Groups
 pub mod Variables
 pub mod Sums

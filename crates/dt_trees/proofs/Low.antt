@@ -44,11 +44,9 @@ module _ (e : Exponents) (level : ℕ) where
       (ap (each (λ left. each (λ right. joined e k (e q p k) right.tree right.list)
       (grown e level n (left.tree ∷ left.list) q))) (grown-low n ts p (omega (arith, r.1, h)))))))
 
-  pub pairs-low : (ts : List Letter) (k : ℕ)
-      → each (λ p. each (λ q. pair_ways e level ts k p q) (upto (p - 1))) (upto (level - 1)) ≡ []
-  pairs-low ts k =
-      each-none (λ p. each (λ q. pair_ways e level ts k p q) (upto (p - 1))) (upto (level - 1))
-      (λ p a. let r = in-upto-range p (level - 1) a in
-      each-none (λ q. pair_ways e level ts k p q) (upto (p - 1))
-      (λ q b. choice-none (is_zero (e q p k)) (each (rights_of e level q k (e q p k)) (grown e level p ts p))
-      (ap (each (rights_of e level q k (e q p k))) (grown-low p ts p (omega (arith, r.0, r.1))))))
+  pub pair-low : (ts : List Letter) (k p q : ℕ) → q < level → pair_ways e level ts k p q ≡ []
+  pair-low ts k p q h =
+      choice-none (is_zero (e q p k)) (each (rights_of e level q k (e q p k)) (grown e level p ts p))
+      (each-none (rights_of e level q k (e q p k)) (grown e level p ts p)
+      (λ left _. ap (each (λ right. joined e k (e q p k) right.tree right.list))
+      (grown-low q (left.tree ∷ left.list) q h)))

@@ -1,6 +1,6 @@
 -- Growing by a left and a right letter, over an arena.
 --   a b d arenas · w left way · ws vs us ways · ts now stacks · e exponents · k p q types · c limit
-use Rattle.std.proofs.Common.{◌≡◌, ◌≢◌, ℕ, zero, suc, ◌+◌, ◌-◌, ◌<◌, ◌≤◌, ◌^◌, List, [], ◌∷◌, ◌++◌, map, refl, sym, ap, ◌∙◌, subst, arith, append_assoc, Bool, false, ℤ, pos, negsuc, if◌then◌else◌}
+use Rattle.std.proofs.Common.{◌≡◌, ◌≢◌, ℕ, zero, suc, ◌+◌, ◌-◌, ◌<◌, ◌≤◌, ◌^◌, List, [], ◌∷◌, ◌++◌, map, refl, sym, ap, ◌∙◌, subst, arith, Bool, false, ℤ, pos, negsuc, if◌then◌else◌}
 use Rattle.std.specs.Prelude.{All}
 use Rattle.std.proofs.lemmas.List.Elements.{All-push}
 use Rattle.nil_pres.specs.Presented.{Presented}
@@ -8,14 +8,15 @@ use Rattle.dt_letters.specs.declared.tree.Tree.{Tree}
 use Rattle.dt_letters.specs.Letters.{Letter}
 use Rattle.dt_letters.specs.Allowed.{Exponents, exponents_of}
 use Rattle.dt_letters.specs.Growth.{AreBelow, most_steps}
-use Rattle.dt_letters.specs.Listing.{Grew, each, grown, is_zero, joined, upto}
+use Rattle.dt_letters.specs.Listing.{Grew, each, grown, is_zero, joined}
 use Rattle.dt_letters.specs.Arena.{Arena, IsTreeOf, IsExtended}
 use Rattle.dt_trees.specs.declared.grown.Grown.{Grown}
 use Rattle.dt_trees.specs.Ways.{stack_in, grown_in, IsWay, AreWays, Gains, FitsFor, IsSmall, rights_of, pair_ways}
-use Rattle.dt_trees.proofs.Each.{each-upto}
 use Rattle.dt_trees.proofs.Small.{IsWithin, grown-within, all_below-more, steps-least, steps-more, steps-node, steps-small}
 use Rattle.dt_trees.proofs.Stacks.{trees-kept, stack-kept, stack-push}
-use Rattle.dt_trees.proofs.Gaining.{gains-trans, gains-before, gains-same, way-kept}
+use Rattle.dt_letters.proofs.Different.{extended-refl}
+use Rattle.dt_trees.proofs.Low.{pair-low}
+use Rattle.dt_trees.proofs.Gaining.{gains-nothing, gains-before, gains-same, way-kept}
 
 -- the left letter is pushed
 
@@ -102,26 +103,16 @@ gains-pair a b d x ws us lefts level k p q c ts is some ways gains =
     ∙ ap (each (rights_of e level q k c)) ways.are ∙ ap f is
     ∙ ap (λ (z : Bool). if z then [] else f (e q p k)) (sym nonzero)) gains)
 
+-- a right letter below the level
+pub gains-low : (a : Arena) (ws : List Grown) (level k p q : ℕ) (ts : List Letter) → q < level
+    → Gains a ws a ws (pair_ways (exponents_of a.pres) level ts k p q)
+gains-low a ws level k p q ts low =
+    gains-same a a ws ws [] (pair_ways (exponents_of a.pres) level ts k p q)
+    (sym (pair-low (exponents_of a.pres) level ts k p q low)) (gains-nothing a a ws (extended-refl a))
+
 pub pair-kept : (a b : Arena) → IsExtended a b → (level k p q : ℕ) (ts : List Tree) → All (IsTreeOf a) ts
     → pair_ways (exponents_of b.pres) level (stack_in b ts) k p q
     ≡ pair_ways (exponents_of a.pres) level (stack_in a ts) k p q
 pair-kept a b x level k p q ts h =
     let f : Presented → List Letter → List Grew = λ r ls. pair_ways (exponents_of r) level ls k p q in
     ap (λ (r : Presented). f r (stack_in b ts)) x.0 ∙ ap (f a.pres) (stack-kept a b x ts h)
-
--- the next number of joined lists
-pub next-joined : (xs : List Grew) (f : ℕ → List Grew) (n m i : ℕ) → suc m ≡ n → i ≡ n
-    → (xs ++ each f (upto m)) ++ f n ≡ xs ++ each f (upto i)
-next-joined xs f n m i e s =
-    ap (λ (z : ℕ). (xs ++ each f (upto m)) ++ f z) (sym e)
-    ∙ append_assoc xs (each f (upto m)) (f (suc m))
-    ∙ ap (λ (zs : List Grew). xs ++ zs) (sym (each-upto f m))
-    ∙ ap (λ (z : ℕ). xs ++ each f (upto z)) (e ∙ sym s)
-
-pub gains-joined : (a b d : Arena) (ws vs us : List Grown) (xs more : List Grew) (f : ℕ → List Grew)
-    (n m i : ℕ) → suc m ≡ n → i ≡ n → more ≡ f n → Gains a ws b vs (xs ++ each f (upto m))
-    → Gains b vs d us more → Gains a ws d us (xs ++ each f (upto i))
-gains-joined a b d ws vs us xs more f n m i e s same p q =
-    gains-same a d ws us ((xs ++ each f (upto m)) ++ f n) (xs ++ each f (upto i))
-    (next-joined xs f n m i e s)
-    (gains-trans a b d ws vs us (xs ++ each f (upto m)) (f n) p (gains-same b d vs us more (f n) same q))

@@ -13,13 +13,13 @@ use dt_letters::Letters;
 use nil_pres::Memory;
 use std::alloc::Global;
 
-/// Appends the ways to grow by a node on letters of two types, where those by a left letter are
+/// Appends the ways to grow by a node on letters of two types, where those by the left letters are
 /// known.
 fn grow_known_pair(
     alloc: Global,
     letters: &mut Letters,
     level: u32,
-    lefts: &[Grown],
+    known: &[Vec<Grown>],
     p: u32,
     q: u32,
     k: u32,
@@ -30,16 +30,21 @@ fn grow_known_pair(
     requires falls { q < p }
     requires below { p < k }
     requires most { k ≤ 48 }
-    requires lefts { AreWays letters.old lefts.now
-        (grown (exponents_of letters.old.pres) level p [] p) }
+    requires next { k ≡ level + length known.now }
+    requires known { AreKnown letters.old (exponents_of letters.old.pres) level known.now }
     ensures kept { IsExtended letters.old letters.new }
     ensures gains { OnOk result (Gains letters.old ways.old.items letters.new ways.new.items
         (pair_ways (exponents_of letters.old.pres) level [] k p q)) }
 {
+    // Nothing grows by such a right letter.
+    if q < level {
+        return Ok(());
+    }
     let limit = letters.exponent(q, p, k);
     if limit == 0 {
         return Ok(());
     }
+    let lefts = &known[(p - level) as usize];
     grow_rights(alloc, letters, level, lefts, q, k, limit, ways)
 }
 
@@ -63,11 +68,11 @@ pub(crate) fn grow_from_nothing(
     let stack = Vec::new(alloc);
     let mut ways = Vec::new(alloc);
     place_leaves(alloc, letters, level, k, &stack, &mut ways)?;
-    for p in level..k {
-        let lefts = &known[(p - level) as usize];
-        for q in 1..p {
-            grow_known_pair(alloc, letters, level, lefts, p, q, k, &mut ways)?;
-        }
+    for place in 0..letters.pairs(k).len() {
+        let pair = letters.pairs(k)[place];
+        grow_known_pair(
+            alloc, letters, level, known, pair.left, pair.right, k, &mut ways,
+        )?;
     }
     Ok(ways)
 }

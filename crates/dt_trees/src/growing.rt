@@ -173,6 +173,10 @@ fn grow_pair(
     ensures gains { OnOk result (Gains letters.old ways.old.items letters.new ways.new.items
         (pair_ways (exponents_of letters.old.pres) level (stack_in letters.old stack.now) k p q)) }
 {
+    // Nothing grows by such a right letter.
+    if q < level {
+        return Ok(());
+    }
     let limit = letters.exponent(q, p, k);
     if limit == 0 {
         return Ok(());
@@ -205,10 +209,11 @@ fn grow(
         return Ok(ways);
     }
     place_leaves(alloc, letters, level, k, stack, &mut ways)?;
-    for p in 1..k {
-        for q in 1..p {
-            grow_pair(alloc, letters, level, stack, p, q, k, &mut ways)?;
-        }
+    for place in 0..letters.pairs(k).len() {
+        let pair = letters.pairs(k)[place];
+        grow_pair(
+            alloc, letters, level, stack, pair.left, pair.right, k, &mut ways,
+        )?;
     }
     Ok(ways)
 }

@@ -1,25 +1,16 @@
-use Rattle.std.proofs.Common.{◌-◌, [], ◌++◌}
+use Rattle.std.proofs.Common.{[], ◌++◌, take}
 use Rattle.dt_letters.specs.Allowed.{exponents_of}
-use Rattle.dt_letters.specs.Listing.{each, upto}
+use Rattle.dt_letters.specs.Listing.{each}
+use Rattle.dt_letters.specs.Pairs.{pairs_of}
 use Rattle.dt_letters.specs.Arena.{IsExtended}
 use Rattle.dt_trees.specs.Ways.{Gains, leaf_ways, pair_ways}
 use Rattle.dt_trees.proofs.from_nothing.grow_from_nothing.Given as goal
 
-abbrev pub invariant-loop-p : goal.invariant-loop-p
-invariant-loop-p l = record {
+abbrev pub invariant-loop-place : goal.invariant-loop-place
+invariant-loop-place l = record {
   kept : IsExtended l.fn.letters l.letters;
   gains : Gains l.fn.letters [] l.letters l.ways.items
       (leaf_ways l.level [] l.k
-      ++ each (λ p. each (λ q. pair_ways (exponents_of l.fn.letters.pres) l.level [] l.k p q)
-      (upto (p - 1))) (upto (l.p - 1)));
-}
-
-abbrev pub invariant-loop-q : goal.invariant-loop-q
-invariant-loop-q l = record {
-  kept : IsExtended l.fn.letters l.letters;
-  gains : Gains l.fn.letters [] l.letters l.ways.items
-      ((leaf_ways l.level [] l.k
-      ++ each (λ p. each (λ q. pair_ways (exponents_of l.fn.letters.pres) l.level [] l.k p q)
-      (upto (p - 1))) (upto (l.p - 1)))
-      ++ each (λ q. pair_ways (exponents_of l.fn.letters.pres) l.level [] l.k l.p q) (upto (l.q - 1)));
+      ++ each (λ pair. pair_ways (exponents_of l.fn.letters.pres) l.level [] l.k pair.left pair.right)
+      (take l.place (pairs_of (exponents_of l.fn.letters.pres) l.k)));
 }

@@ -1,21 +1,23 @@
 -- Growing by types, pair by pair and left letter by left letter.
-use Rattle.std.proofs.Common.{◌≡◌, ℕ, ◌^◌, ◌+◌, ◌-◌, ◌∙◌, List, [], ◌++◌, map, sym, ap, subst, arith, rules, ℤ, w64, to_z, of_z, FitsSigned}
+use Rattle.std.proofs.Common.{◌≡◌, ◌^◌, ◌-◌, ◌∙◌, List, [], ◌++◌, length, get_or, take, map, sym, ap, subst, arith, rules, ℤ, w64, to_z, of_z, FitsSigned}
 use Rattle.std.specs.Prelude.{All, OnOk}
 use Rattle.std.proofs.lemmas.Int.{to_z-of_z}
 use Rattle.std.proofs.lemmas.List.{take_all}
 use Rattle.dt_letters.specs.Allowed.{exponents_of}
 use Rattle.dt_letters.specs.Growth.{AreBelow, most_steps}
-use Rattle.dt_letters.specs.Listing.{Grew, each, joined, upto}
+use Rattle.dt_letters.specs.declared.pair.Pair.{Pair}
+use Rattle.dt_letters.specs.Pairs.{pairs_of}
+use Rattle.dt_letters.specs.Listing.{Grew, each, joined}
 use Rattle.dt_letters.proofs.Different.{extended-trans}
 use Rattle.dt_trees.specs.declared.grown.Grown.{Grown}
 use Rattle.dt_trees.specs.Ways.{stack_in, grown_in, IsWay, Gains, AreWays, FitsFor, IsSmall, leaf_ways, rights_of, pair_ways}
-use Rattle.dt_trees.proofs.Depth.{grown-ways}
 use Rattle.dt_trees.proofs.Low.{grown-low}
 use Rattle.dt_trees.proofs.Small.{all_below-more}
 use Rattle.dt_trees.proofs.Stacks.{trees-kept, small-kept}
-use Rattle.dt_trees.proofs.Gaining.{gains-before, gains-same, ways-gained, on_ok}
+use Rattle.dt_trees.proofs.Gaining.{gains-before, ways-gained, on_ok}
 use Rattle.dt_trees.proofs.Joining.{way-at, grew-at, gains-each-next}
-use Rattle.dt_trees.proofs.Pairs.{pushed-trees, pushed-stack, rights-small, lefts-small, half-small, rights-same, gains-pair, pair-kept, next-joined, gains-joined}
+use Rattle.dt_trees.proofs.Pairs.{pushed-trees, pushed-stack, rights-small, lefts-small, half-small, rights-same, gains-pair, gains-low, pair-kept}
+use Rattle.dt_trees.proofs.Visited.{next-range, pairs-kept, grown-pairs, gains-next_pair}
 use Rattle.dt_trees.proofs.growing.+grow.Goals as goal
 
 pub grow-returns-then-k-level-clause-ways : goal.grow-returns-then-k-level-clause-ways
@@ -35,86 +37,84 @@ grow-place_leaves-requires-clause-small t c =
     (omega arith) c.requires.small
 
 pub grow-grow_pair-requires : goal.grow-grow_pair-requires
-grow-grow_pair-requires t c = (
-  omega arith,
-  (
-    c.requires.level,
-    (
-      c.loop-q.auto.q,
+grow-grow_pair-requires t c =
+    let a = c.args.letters.now in
+    let b = c.loop-place.letters in
+    let d : Pair = record { left = 0; right = 0 } in
+    let r = next-range a b c.place_leaves.new.letters c.loop-place.invariant.kept c.place_leaves.ensures.kept c.args.k
+    c.loop-place.place c.pairs.result.now c.pairs-place-end.result.now d c.pairs.ensures c.pairs-place-end.ensures
+    c.loop-place-test.true in (
+      omega (arith, r.2),
       (
-        omega arith,
+        c.requires.level,
         (
-          omega arith,
+          r.0,
           (
-            c.requires.most,
+            r.1,
             (
-              trees-kept c.args.letters.now c.loop-q.letters c.loop-q.invariant.kept c.args.stack.now
-                  c.requires.trees,
-              small-kept (2 ^ 63 - most_steps c.args.k) c.args.letters.now c.loop-q.letters
-                  c.loop-q.invariant.kept c.args.stack.now c.requires.trees c.requires.small,
+              r.2,
+              (
+                c.requires.most,
+                (
+                  trees-kept a b c.loop-place.invariant.kept c.args.stack.now c.requires.trees,
+                  small-kept (2 ^ 63 - most_steps c.args.k) a b c.loop-place.invariant.kept c.args.stack.now
+                      c.requires.trees c.requires.small,
+                ),
+              ),
             ),
           ),
         ),
       ),
-    ),
-  ),
-)
+    )
 
 pub grow-returns-in_err-grow_pair-clause-kept : goal.grow-returns-in_err-grow_pair-clause-kept
 grow-returns-in_err-grow_pair-clause-kept t c =
-    extended-trans c.args.letters.now c.loop-q.letters c.grow_pair.new.letters c.loop-q.invariant.kept
+    extended-trans c.args.letters.now c.loop-place.letters c.grow_pair.new.letters c.loop-place.invariant.kept
     c.grow_pair.ensures.kept
 
-pub grow-loop-q-preserved : goal.grow-loop-q-preserved
-grow-loop-q-preserved t c =
+pub grow-loop-place-preserved : goal.grow-loop-place-preserved
+grow-loop-place-preserved t c =
     let a = c.args.letters.now in
-    let b = c.loop-q.letters in
+    let b = c.loop-place.letters in
     let ts = stack_in a c.args.stack.now in
-    let f : ℕ → ℕ → List Grew = pair_ways (exponents_of a.pres) c.args.level ts c.args.k in
+    let d : Pair = record { left = 0; right = 0 } in
+    let pair = get_or c.pairs.result.now c.loop-place.place d in
+    let r = next-range a b c.place_leaves.new.letters c.loop-place.invariant.kept c.place_leaves.ensures.kept c.args.k
+    c.loop-place.place c.pairs.result.now c.pairs-place-end.result.now d c.pairs.ensures c.pairs-place-end.ensures
+    c.loop-place-test.true in
     record {
-      kept = extended-trans a b c.grow_pair.new.letters c.loop-q.invariant.kept c.grow_pair.ensures.kept;
-      gains = gains-joined a b c.grow_pair.new.letters [] c.loop-q.ways.items c.grow_pair.new.ways.items
-          (leaf_ways c.args.level ts c.args.k ++ each (λ p. each (λ q. f p q) (upto (p - 1))) (upto (c.loop-p.p - 1)))
-          (pair_ways (exponents_of b.pres) c.args.level (stack_in b c.args.stack.now) c.args.k c.loop-p.p c.loop-q.q)
-          (f c.loop-p.p) c.loop-q.q (c.loop-q.q - 1) (c.loop-q.q + 1 - 1) (omega (arith, c.loop-q.auto.q)) (omega arith)
-          (pair-kept a b c.loop-q.invariant.kept c.args.level c.args.k c.loop-p.p c.loop-q.q c.args.stack.now
+      kept = extended-trans a b c.grow_pair.new.letters c.loop-place.invariant.kept c.grow_pair.ensures.kept;
+      gains = gains-next_pair a b c.grow_pair.new.letters [] c.loop-place.ways.items c.grow_pair.new.ways.items
+          (leaf_ways c.args.level ts c.args.k)
+          (pair_ways (exponents_of b.pres) c.args.level (stack_in b c.args.stack.now) c.args.k pair.left pair.right)
+          (pairs_of (exponents_of a.pres) c.args.k) c.pairs.result.now c.loop-place.place d
+          (λ x. pair_ways (exponents_of a.pres) c.args.level ts c.args.k x.left x.right)
+          (pairs-kept a b c.loop-place.invariant.kept c.args.k c.pairs.result.now c.pairs.ensures) r.3
+          (pair-kept a b c.loop-place.invariant.kept c.args.level c.args.k pair.left pair.right c.args.stack.now
           c.requires.trees)
-          c.loop-q.invariant.gains c.in_ok-grow_pair.ensures.gains;
-    }
-
-pub grow-loop-p-preserved : goal.grow-loop-p-preserved
-grow-loop-p-preserved t c =
-    let a = c.args.letters.now in
-    let ts = stack_in a c.args.stack.now in
-    let f : ℕ → ℕ → List Grew = pair_ways (exponents_of a.pres) c.args.level ts c.args.k in
-    let row : ℕ → List Grew = λ p. each (λ q. f p q) (upto (p - 1)) in
-    let leaves = leaf_ways c.args.level ts c.args.k in
-    let p = c.loop-p.p in
-    let last : c.loop-q.q - 1 ≡ p - 1 = omega (arith, c.loop-q.auto.q-end, c.loop-p.auto.p, c.loop-q-test.false) in
-    record {
-      kept = c.loop-q.invariant.kept;
-      gains = gains-same a c.loop-q.letters [] c.loop-q.ways.items
-          ((leaves ++ each row (upto (p - 1))) ++ each (f p) (upto (c.loop-q.q - 1)))
-          (leaves ++ each row (upto (p + 1 - 1)))
-          (ap (λ (i : ℕ). (leaves ++ each row (upto (p - 1))) ++ each (f p) (upto i)) last
-          ∙ next-joined leaves row p (p - 1) (p + 1 - 1) (omega (arith, c.loop-p.auto.p)) (omega arith))
-          c.loop-q.invariant.gains;
+          c.loop-place.invariant.gains c.in_ok-grow_pair.ensures.gains;
     }
 
 pub grow-returns-clause-ways : goal.grow-returns-clause-ways
 grow-returns-clause-ways t c =
     let a = c.args.letters.now in
+    let e = exponents_of a.pres in
     let ts = stack_in a c.args.stack.now in
-    let f : ℕ → ℕ → List Grew = pair_ways (exponents_of a.pres) c.args.level ts c.args.k in
-    let row : ℕ → List Grew = λ p. each (λ q. f p q) (upto (p - 1)) in
+    let f : Pair → List Grew = λ x. pair_ways e c.args.level ts c.args.k x.left x.right in
     let leaves = leaf_ways c.args.level ts c.args.k in
-    let last : c.loop-p.p - 1 ≡ c.args.k - 1 =
-    omega (arith, c.loop-p.auto.p-end, c.loop-p-test.false, c.requires.least) in
-    subst (AreWays c.loop-p.letters c.loop-p.ways.items)
-    (ap (λ (i : ℕ). leaves ++ each row (upto i)) last
-    ∙ sym (grown-ways (exponents_of a.pres) c.args.level c.requires.level ts c.args.k c.requires.least))
-    (ways-gained a c.loop-p.letters c.loop-p.ways.items (leaves ++ each row (upto (c.loop-p.p - 1)))
-    c.loop-p.invariant.gains)
+    let all = pairs-kept a c.place_leaves.new.letters c.place_leaves.ensures.kept c.args.k
+    c.pairs-place-end.result.now c.pairs-place-end.ensures in
+    subst (AreWays c.loop-place.letters c.loop-place.ways.items)
+    (ap (λ (ps : List Pair). leaves ++ each f ps) (take_all c.loop-place.place (pairs_of e c.args.k)
+    (omega (arith, c.loop-place-test.false, ap length all)))
+    ∙ grown-pairs e c.args.level ts c.args.k c.requires.level c.requires.least)
+    (ways-gained a c.loop-place.letters c.loop-place.ways.items
+    (leaves ++ each f (take c.loop-place.place (pairs_of e c.args.k))) c.loop-place.invariant.gains)
+
+pub grow_pair-returns-then-q-level-clause-gains : goal.grow_pair-returns-then-q-level-clause-gains
+grow_pair-returns-then-q-level-clause-gains t c =
+    gains-low c.args.letters.now c.args.ways.now.items c.args.level c.args.k c.args.p c.args.q
+    (stack_in c.args.letters.now c.args.stack.now) (omega (arith, c.if-q-level.true))
 
 pub grow_pair-grow-requires : goal.grow_pair-grow-requires
 grow_pair-grow-requires t c = (

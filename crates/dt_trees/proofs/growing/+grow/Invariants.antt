@@ -1,6 +1,7 @@
-use Rattle.std.proofs.Common.{◌+◌, ◌-◌, [], ◌++◌, map, take}
+use Rattle.std.proofs.Common.{◌+◌, [], ◌++◌, map, take}
 use Rattle.dt_letters.specs.Allowed.{exponents_of}
-use Rattle.dt_letters.specs.Listing.{each, upto}
+use Rattle.dt_letters.specs.Listing.{each}
+use Rattle.dt_letters.specs.Pairs.{pairs_of}
 use Rattle.dt_letters.specs.Arena.{IsExtended}
 use Rattle.dt_trees.specs.Ways.{stack_in, grown_in, Gains, leaf_ways, rights_of, pair_ways}
 use Rattle.dt_trees.proofs.growing.+grow.Given as goal
@@ -22,25 +23,11 @@ invariant-grow_rights-loop-left l = record {
       (map (grown_in l.fn.letters) (take l.left-index l.lefts)));
 }
 
-abbrev pub invariant-grow-loop-p : goal.invariant-grow-loop-p
-invariant-grow-loop-p l = record {
+abbrev pub invariant-grow-loop-place : goal.invariant-grow-loop-place
+invariant-grow-loop-place l = record {
   kept : IsExtended l.fn.letters l.letters;
   gains : Gains l.fn.letters [] l.letters l.ways.items
       (leaf_ways l.level (stack_in l.fn.letters l.stack) l.k
-      ++ each (λ p. each (λ q.
-      pair_ways (exponents_of l.fn.letters.pres) l.level (stack_in l.fn.letters l.stack) l.k p q)
-      (upto (p - 1))) (upto (l.p - 1)));
-}
-
-abbrev pub invariant-grow-loop-q : goal.invariant-grow-loop-q
-invariant-grow-loop-q l = record {
-  kept : IsExtended l.fn.letters l.letters;
-  gains : Gains l.fn.letters [] l.letters l.ways.items
-      ((leaf_ways l.level (stack_in l.fn.letters l.stack) l.k
-      ++ each (λ p. each (λ q.
-      pair_ways (exponents_of l.fn.letters.pres) l.level (stack_in l.fn.letters l.stack) l.k p q)
-      (upto (p - 1))) (upto (l.p - 1)))
-      ++ each (λ q.
-      pair_ways (exponents_of l.fn.letters.pres) l.level (stack_in l.fn.letters l.stack) l.k l.p q)
-      (upto (l.q - 1)));
+      ++ each (λ pair. pair_ways (exponents_of l.fn.letters.pres) l.level (stack_in l.fn.letters l.stack) l.k
+      pair.left pair.right) (take l.place (pairs_of (exponents_of l.fn.letters.pres) l.k)));
 }
