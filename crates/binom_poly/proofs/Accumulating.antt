@@ -1,5 +1,5 @@
 -- From the contributions that a map holds to the polynomial that they make
-use Rattle.std.proofs.Common.{◌≡◌, ℕ, List, [], ◌∷◌, ◌++◌, sym, ap, ◌∙◌, subst}
+use Rattle.std.proofs.Common.{◌≡◌, ℕ, List, [], ◌∷◌, ◌++◌, sym, ◌∙◌, subst}
 use Rattle.std.specs.Prelude.{ℤ, unsigned_abs}
 use Rattle.nil_num.specs.Bound.{Overflows}
 use Rattle.binom_poly.specs.declared.part.Part.{Part}
@@ -7,8 +7,8 @@ use Rattle.binom_poly.specs.declared.term.Term.{Term}
 use Rattle.binom_poly.specs.declared.sums.Sum.{Sum}
 use Rattle.binom_poly.specs.Polynomial.{value_of, IsPolynomial}
 use Rattle.binom_poly.specs.Weight.{DoOverflow}
-use Rattle.binom_poly.specs.Times.{contribution, product_terms}
-use Rattle.binom_poly.specs.Sums.{entries_value, Holds, Gains, OverflowsWith}
+use Rattle.binom_poly.specs.Times.{contribution}
+use Rattle.binom_poly.specs.Sums.{entries_value, Holds, Gains}
 use Rattle.binom_poly.specs.Collected.{collected}
 use Rattle.binom_poly.proofs.Unique.{unique_form}
 use Rattle.binom_poly.proofs.Contributing.{fits, overflows_first, overflows_before}
@@ -33,26 +33,3 @@ pub gained_by : (old mid new : List (List Part × Sum)) (ms : List Part) (c z : 
     → Gains mid new (contribution ms z ∷ []) → Holds old cs → Holds new (cs ++ contribution ms c ∷ [])
 gained_by old mid new ms c z cs e f g h =
     subst (λ (x : ℤ). Holds new (cs ++ contribution ms x ∷ [])) e (g.holds cs (subst (λ es. Holds es cs) (sym f) h))
-
-pub overflowed_by : (old mid : List (List Part × Sum)) (ms : List Part) (c z : ℤ) (cs : List Term) → z ≡ c → mid ≡ old
-    → OverflowsWith mid (contribution ms z ∷ []) → Holds old cs → DoOverflow (cs ++ contribution ms c ∷ [])
-overflowed_by old mid ms c z cs e f o h =
-    subst (λ (x : ℤ). DoOverflow (cs ++ contribution ms x ∷ [])) e (o.overflows cs (subst (λ es. Holds es cs) (sym f) h))
-
--- ---- the terms of polynomials that were read
-pub gained_terms : (old mid new : List (List Part × Sum)) (ts p cs : List Term) → mid ≡ old → ts ≡ p
-    → Gains mid new ts → Holds old cs → Holds new (cs ++ p)
-gained_terms old mid new ts p cs e f g h =
-    subst (λ us. Holds new (cs ++ us)) f (g.holds cs (subst (λ es. Holds es cs) (sym e) h))
-
-pub gained_product : (old mid new : List (List Part × Sum)) (ts us p q cs : List Term) → mid ≡ old → ts ≡ p → us ≡ q
-    → Gains mid new (product_terms ts us) → Holds old cs → Holds new (cs ++ product_terms p q)
-gained_product old mid new ts us p q cs e f g =
-    gained_terms old mid new (product_terms ts us) (product_terms p q) cs e
-    (ap (λ xs. product_terms xs us) f ∙ ap (product_terms p) g)
-
-pub overflowed_product : (old mid : List (List Part × Sum)) (ts us p q cs : List Term) → mid ≡ old → ts ≡ p → us ≡ q
-    → OverflowsWith mid (product_terms ts us) → Holds old cs → DoOverflow (cs ++ product_terms p q)
-overflowed_product old mid ts us p q cs e f g o h =
-    subst (λ xs. DoOverflow (cs ++ xs)) (ap (λ xs. product_terms xs us) f ∙ ap (product_terms p) g)
-    (o.overflows cs (subst (λ es. Holds es cs) (sym e) h))

@@ -4,7 +4,7 @@
 ghost use Rattle.std.specs.Prelude.{◌≡◌, [], ◌∷◌, ◌++◌, ℕ, ℤ, List, IfOk, IfErr};
 ghost use Rattle.binom_poly.specs.Monomial.{IsMonomial};
 ghost use Rattle.binom_poly.specs.Polynomial.{value_of};
-ghost use Rattle.binom_poly.specs.Times.{contribution, product_terms};
+ghost use Rattle.binom_poly.specs.Times.{contribution};
 ghost use Rattle.binom_poly.specs.Collected.{collected};
 ghost use Rattle.binom_poly.specs.Sums.{Holds};
 ghost use Rattle.binom_poly.specs.Weight.{DoOverflow};
@@ -13,7 +13,6 @@ ghost use Rattle.binom_poly.specs.declared.term.Term.{Term};
 use crate::fault::{Memory, PolyFault};
 use crate::monomial::Monomial;
 use crate::poly::Poly;
-use crate::product::Product;
 use crate::sums::Sums;
 use nil_num::MAX;
 use std::alloc::Global;
@@ -22,19 +21,17 @@ use std::marker::Model;
 /// The contributions so far: their sums by monomial, and the sums of their magnitudes.
 #[derive(Drop)]
 pub struct Accumulator {
-    product: Product,
+    sums: Sums,
 }
 
 impl Model for Accumulator {
-    ghost use Rattle.std.specs.Prelude.{List, [], ◌≡◌};
+    ghost use Rattle.std.specs.Prelude.{List};
     ghost use Rattle.binom_poly.specs.declared.part.Part.{Part};
     ghost use Rattle.binom_poly.specs.declared.sums.Sum.{Sum};
 
     ghost Value = { List (List Part × Sum) };
 
-    ghost view = { λ a. a.product.sums };
-
-    ghost invariant = { λ a. a.product.prefix.items ≡ [] };
+    ghost view = { λ a. a.sums };
 }
 
 impl Accumulator {
@@ -43,10 +40,7 @@ impl Accumulator {
         ensures { Holds result [] }
     {
         Accumulator {
-            product: Product {
-                sums: Sums::new(alloc),
-                prefix: Vec::new(alloc),
-            },
+            sums: Sums::new(alloc),
         }
     }
 
@@ -69,39 +63,9 @@ impl Accumulator {
         if coefficient < -MAX {
             return Err(PolyFault::Wide);
         }
-        let Accumulator { mut product } = self;
-        product.sums.add(alloc, monomial, coefficient)?;
-        Ok(Accumulator { product })
-    }
-
-    /// Adds the terms of a polynomial: `Wide` exactly where those so far and these overflow. A
-    /// refusal takes the contributions with it.
-    pub fn add_poly(self, alloc: Global, p: &Poly) -> Result<Accumulator, PolyFault>
-        ensures holds { IfOk result (λ more. (cs : List Term) → Holds self cs
-            → Holds more (cs ++ p.now)) }
-        ensures fits { IfOk result (λ _. (cs : List Term) → Holds self cs
-            → ¬ DoOverflow (cs ++ p.now)) }
-        ensures wide { IfErr result (λ fault. fault ≡ PolyFault.Wide → (cs : List Term)
-            → Holds self cs → DoOverflow (cs ++ p.now)) }
-    {
-        let Accumulator { mut product } = self;
-        product.sums.add_terms(alloc, p.terms())?;
-        Ok(Accumulator { product })
-    }
-
-    /// Adds the contributions of the product of two polynomials, which isn't made: `Wide` exactly
-    /// where those so far and these overflow. A refusal takes the contributions with it.
-    pub fn add_product(self, alloc: Global, p: &Poly, q: &Poly) -> Result<Accumulator, PolyFault>
-        ensures holds { IfOk result (λ more. (cs : List Term) → Holds self cs
-            → Holds more (cs ++ product_terms p.now q.now)) }
-        ensures fits { IfOk result (λ _. (cs : List Term) → Holds self cs
-            → ¬ DoOverflow (cs ++ product_terms p.now q.now)) }
-        ensures wide { IfErr result (λ fault. fault ≡ PolyFault.Wide → (cs : List Term)
-            → Holds self cs → DoOverflow (cs ++ product_terms p.now q.now)) }
-    {
-        let Accumulator { mut product } = self;
-        product.add_all(alloc, p.terms(), q.terms())?;
-        Ok(Accumulator { product })
+        let Accumulator { mut sums } = self;
+        sums.add(alloc, monomial, coefficient)?;
+        Ok(Accumulator { sums })
     }
 
     /// The polynomial that the contributions make.
@@ -112,8 +76,7 @@ impl Accumulator {
             → (a : ℕ → ℤ) → value_of a p ≡ value_of a cs) }
         ensures fits { (cs : List Term) → Holds self cs → ¬ DoOverflow cs }
     {
-        let Accumulator { product } = self;
-        let Product { sums, prefix: _ } = product;
+        let Accumulator { sums } = self;
         let terms = sums.into_terms(alloc)?;
         Ok(Poly::of(terms))
     }
@@ -139,22 +102,6 @@ mod tests {
             let two = one.add(alloc, &monomial, 1 - half)?;
             assert!(rt; same(&two.into_poly(alloc)?, &x));
         }
-        Ok(())
-    }
-
-    #[test]
-    fn a_product_and_a_polynomial(rt: HostRuntime) -> Result<(), Fail> {
-        let alloc = rt.alloc();
-        let x = var(alloc, 1)?;
-        let more = add(alloc, &x, &constant(alloc, 1)?)?;
-        let sum = Accumulator::new(alloc)
-            .add_product(alloc, &x, &more)?
-            .add_poly(alloc, &more)?
-            .add_product(alloc, &constant(alloc, -3)?, &x)?;
-        // (x + 1)^2 - 3*x is 1 + 2*C(x,2)
-        let pairs = mul(alloc, &x, &add(alloc, &x, &constant(alloc, -1)?)?)?;
-        let expected = add(alloc, &constant(alloc, 1)?, &pairs)?;
-        assert!(rt; same(&sum.into_poly(alloc)?, &expected));
         Ok(())
     }
 }

@@ -2,12 +2,10 @@
 //! printed; no time is measured here.
 #![tactic(auto)]
 
-mod agreement;
 mod building;
 mod multiplication;
 mod substitution;
 
-use agreement::{agree_squares, compare_squares};
 use anyhow::{Result, bail};
 use binom_poly::PolyFault;
 use multiplication::multiply;
@@ -21,16 +19,13 @@ fn main(rt: HostRuntime) -> Result<()> {
     match words.first() {
         None => {
             print(&rt, multiply(alloc, 2, 2, 1))?;
-            print(&rt, put_three(alloc, 1, 1))?;
-            print(&rt, agree_squares(alloc, 1, 1))
+            print(&rt, put_three(alloc, 1, 1))
         }
         Some(word) => match word.as_str() {
             "mul" => print(&rt, multiply(alloc, 20, 3, 1)),
             "mul_apart" => print(&rt, multiply(alloc, 20, 3, 21)),
             "substitute" => print(&rt, put_three(alloc, 4, 9)),
-            "agree" => print(&rt, agree_squares(alloc, 4, 9)),
-            "compare" => print(&rt, compare_squares(alloc, 4, 9)),
-            _ => bail!("mul, mul_apart, substitute, agree, compare, or no word"),
+            _ => bail!("mul, mul_apart, substitute, or no word"),
         },
     }
 }

@@ -6,13 +6,11 @@ ghost use Rattle.binom_poly.specs.Fault.{wide_of};
 ghost use Rattle.binom_poly.specs.Monomial.{IsVariable};
 ghost use Rattle.binom_poly.specs.Polynomial.{value_of};
 ghost use Rattle.poly_subst.specs.Substitute.{replaced, substituted, SubstituteOverflows};
-ghost use Rattle.poly_subst.specs.Growing.{signed, Grows};
 
-use crate::agreeing::add_substituted;
 use crate::assign::Assign;
 use crate::power_row::PowerRow;
 use crate::substituting::{first_rows, substitute_by};
-use binom_poly::{Accumulator, Memory, Poly, PolyFault};
+use binom_poly::{Memory, Poly, PolyFault};
 use std::alloc::Global;
 use std::marker::Model;
 
@@ -57,27 +55,5 @@ impl Substitution {
         ensures kept { self.new ≡ self.old }
     {
         substitute_by(alloc, p, self.list.as_slice(), self.rows.as_mut_slice())
-    }
-
-    /// Adds the polynomial, or its opposite, with each listed polynomial put in place of its variable.
-    pub(crate) fn add_to(
-        &mut self,
-        alloc: Global,
-        sum: Accumulator,
-        minus: bool,
-        p: &Poly,
-    ) -> Result<Accumulator, PolyFault>
-        ensures grows { IfOk result (λ more. Grows sum more (λ a.
-            signed minus (value_of (replaced self.old a) p.now))) }
-        ensures kept { self.new ≡ self.old }
-    {
-        add_substituted(
-            alloc,
-            sum,
-            minus,
-            p,
-            self.list.as_slice(),
-            self.rows.as_mut_slice(),
-        )
     }
 }

@@ -12,5 +12,5 @@ returns-clause-fits c = λ cs h. held_fits c.args.self cs h
 pub returns-clause-collected : goal.returns-clause-collected
 returns-clause-collected c = λ cs h.
     c.of.ensures
-    ∙ held_collected c.self.inside.product.sums cs c.in_ok-terms.terms.items (subst (λ es. Holds es cs) (sym c.self.view_is) h)
+    ∙ held_collected c.self.inside.sums cs c.in_ok-terms.terms.items (subst (λ es. Holds es cs) (sym c.self.view_is) h)
     c.in_ok-terms.ensures.form c.in_ok-terms.ensures.value
