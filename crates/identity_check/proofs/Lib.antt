@@ -27,5 +27,6 @@ pub mod Constants
 pub mod PairEntries
 pub mod Marks
 pub mod PutPairs
+pub mod Meetings
 pub mod Showing
 pub mod Apart

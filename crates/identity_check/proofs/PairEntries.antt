@@ -90,7 +90,7 @@ pair_is p k j l h a b d low high =
     omega (arith, ints, one, two, own, one_at-part k l, one_at-part k j)
 
 -- ---- rows of 0 and 1
-not_above : (n m : ℕ) → m < n → nat_le n m ≡ false
+pub not_above : (n m : ℕ) → m < n → nat_le n m ≡ false
 not_above n m l = grind (arith, nat_tests)
 
 small_zero : (k : ℕ) → unsigned_abs (written_product (pos 0) k) ≤ 1

@@ -66,7 +66,7 @@ passes_none t k j x y b o oj s =
     }
 
 -- ---- values
-value_none : (a : ℕ → ℤ) (p : List Term) → All (λ u. monomial_value a u.monomial ≡ pos 0) p
+pub value_none : (a : ℕ → ℤ) (p : List Term) → All (λ u. monomial_value a u.monomial ≡ pos 0) p
     → value_of a p ≡ pos 0
 unfolding value_of
 value_none a [] h = λ i. pos 0

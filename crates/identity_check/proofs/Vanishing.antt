@@ -20,13 +20,13 @@ use Rattle.identity_check.specs.Crossing.Crosses.{own, often, past}
 use Rattle.identity_check.proofs.Agreeing.{Bounds, IsOf}
 
 -- ---- a part that is 0
-part_none : (z : ℤ) (e : ℕ) → z ≡ pos 0 → 1 ≤ e → choose z e ≡ pos 0
+pub part_none : (z : ℤ) (e : ℕ) → z ≡ pos 0 → 1 ≤ e → choose z e ≡ pos 0
 part_none z e h l = ap (λ (w : ℤ). choose w e) h ∙ choose_past 0 e l
 
-part_once : (z : ℤ) (e : ℕ) → z ≡ pos 1 → 1 < e → choose z e ≡ pos 0
+pub part_once : (z : ℤ) (e : ℕ) → z ≡ pos 1 → 1 < e → choose z e ≡ pos 0
 part_once z e h l = ap (λ (w : ℤ). choose w e) h ∙ choose_past 1 e l
 
-monomial_none : (a : ℕ → ℤ) (ms : List Part) (i : ℕ) (d : Part) → i < length ms
+pub monomial_none : (a : ℕ → ℤ) (ms : List Part) (i : ℕ) (d : Part) → i < length ms
     → choose (a ((slice_index_or ms i d).var)) ((slice_index_or ms i d).exp) ≡ pos 0
     → monomial_value a ms ≡ pos 0
 unfolding monomial_value
@@ -38,7 +38,7 @@ monomial_none a (p ∷ ps) (suc i) d l e =
     ∙ *ℤ-zero (choose (a p.var) p.exp)
 
 -- ---- the parts of a monomial
-exponents_least : (low : ℕ) (ms : List Part) → IsMonomialAbove low ms → All (λ p. 1 ≤ p.exp) ms
+pub exponents_least : (low : ℕ) (ms : List Part) → IsMonomialAbove low ms → All (λ p. 1 ≤ p.exp) ms
 unfolding IsMonomialAbove
 exponents_least low [] f = All-nil (λ p. 1 ≤ p.exp)
 exponents_least low (p ∷ ps) f =
@@ -55,7 +55,7 @@ variables_above low (p ∷ ps) (suc i) d f l =
     variables_above p.var ps i d f.4 (omega arith) in
     omega arith
 
-variables_ascend : (low : ℕ) (ms : List Part) (h i : ℕ) (d : Part) → IsMonomialAbove low ms → h < i
+pub variables_ascend : (low : ℕ) (ms : List Part) (h i : ℕ) (d : Part) → IsMonomialAbove low ms → h < i
     → i < length ms → (slice_index_or ms h d).var < (slice_index_or ms i d).var
 unfolding IsMonomialAbove
 variables_ascend low [] h i d f l m = absurd (omega arith)

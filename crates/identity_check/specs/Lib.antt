@@ -8,6 +8,7 @@ pub mod Points
 pub mod Halts
 pub mod Signs
 pub mod Pairs
+pub mod Meeting
 pub mod Adding
 pub mod Crossing
 pub mod Drawing

@@ -14,6 +14,7 @@ mod last_letters;
 pub mod laws;
 mod listing;
 mod making;
+mod meeting;
 mod pairs;
 mod steps;
 #[cfg(test)]

@@ -1,6 +1,6 @@
 //! The relations, as identities between numbers.
 
-ghost use Rattle.std.specs.Prelude.{◌≡◌, ◌<◌, ◌≤◌, [], ◌∷◌, length, unsigned_abs, OnOk};
+ghost use Rattle.std.specs.Prelude.{◌≡◌, ◌≢◌, ◌<◌, ◌≤◌, pos, [], ◌∷◌, length, unsigned_abs, IsTrue, OnOk};
 ghost use Rattle.nil_num.specs.Bound.{IsNumber};
 ghost use Rattle.nil_word.specs.Exponents.{one_at};
 ghost use Rattle.nil_pres.specs.Relations.{relations_of};
@@ -8,6 +8,7 @@ ghost use Rattle.hall_table.specs.Tabled.{last_of};
 ghost use Rattle.hall_table.specs.Width.{HasRows};
 ghost use Rattle.identity_check.specs.declared.identity.Identity.{Identity};
 ghost use Rattle.identity_check.specs.Sides.{xs, entry_of_pair};
+ghost use Rattle.identity_check.specs.Meeting.{AllTold};
 ghost use Rattle.identity_check.specs.Pairs.{PutPair, AreZero, AreZeroBut, exponent_in};
 ghost use Rattle.identity_check.specs.Events.{at_each};
 ghost use Rattle.identity_check.specs.Events.Event.{tries};
@@ -42,7 +43,7 @@ fn one_at(k: u32, j: u32) -> i128
 }
 
 /// Entry k of 1 at j and at l plus the exponents of their right side.
-fn entry_of_pair(pres: &Presentation, j: u32, l: u32, k: u32) -> i128
+pub fn entry_of_pair(pres: &Presentation, j: u32, l: u32, k: u32) -> i128
     requires first { 1 ≤ j }
     requires below { j < l }
     requires last { l ≤ length pres.now.names }
@@ -53,6 +54,19 @@ fn entry_of_pair(pres: &Presentation, j: u32, l: u32, k: u32) -> i128
     let _ = pres.count();
     let exponent = exponent_in(pres.right_side(l, j), k) as i128;
     exponent + one_at(k, l) + one_at(k, j)
+}
+
+/// Whether entry k of a relation is one of neither generator, and 0.
+fn is_bare(pres: &Presentation, j: u32, l: u32, k: u32) -> bool
+    requires first { 1 ≤ j }
+    requires below { j < l }
+    requires last { l ≤ length pres.now.names }
+    requires least { 1 ≤ k }
+    requires most { k ≤ length pres.now.names }
+    ensures { IsTrue result
+        → (k ≢ j) × (k ≢ l) × (entry_of_pair (relations_of pres.now) j l k ≡ pos 0) }
+{
+    k != j && k != l && entry_of_pair(pres, j, l, k) == 0
 }
 
 /// Puts the unit vectors of two generators as values.
@@ -125,16 +139,18 @@ fn relation(
     }))
 }
 
-/// Tries the relation of two generators, at each entry.
+/// Tries the relation of two generators, at each entry but those where all terms are told to be 0.
 pub fn relations(
     alloc: Global,
     pres: &Presentation,
     table: &Table,
     rows: &mut Rows,
+    told: bool,
     j: u32,
     l: u32,
 ) -> Result<(), Halt>
     requires names { last_of table.now ≡ length pres.now.names }
+    requires told { IsTrue told → AllTold (relations_of pres.now) table.now }
     requires first { table.now.level ≤ j }
     requires below { j < l }
     requires last { l ≤ last_of table.now }
@@ -147,7 +163,9 @@ pub fn relations(
 {
     put_pair(table, rows, j, l);
     for k in table.level()..table.last() + 1 {
-        relation(alloc, pres, table, rows, j, l, k)?;
+        if !told || !is_bare(pres, j, l, k) {
+            relation(alloc, pres, table, rows, j, l, k)?;
+        }
     }
     clear_pair(table, rows, j, l);
     Ok(())

@@ -1,6 +1,6 @@
 //! The walk over all identities, in their written order.
 
-ghost use Rattle.std.specs.Prelude.{◌≡◌, ◌≤◌, length, OnOk};
+ghost use Rattle.std.specs.Prelude.{◌≡◌, ◌≤◌, length, IsTrue, OnOk};
 ghost use Rattle.std.specs.List.{flat_map};
 ghost use Rattle.nil_pres.specs.Relations.{relations_of};
 ghost use Rattle.poly_subst.specs.Walk.{in_x};
@@ -10,10 +10,12 @@ ghost use Rattle.hall_table.specs.Width.{HasRows};
 ghost use Rattle.identity_check.specs.Sides.{xs};
 ghost use Rattle.identity_check.specs.Events.{events, last_events, relation_events, step_events};
 ghost use Rattle.identity_check.specs.Halts.{Walks, WalksIn};
+ghost use Rattle.identity_check.specs.Meeting.{AllTold};
 ghost use Rattle.identity_check.specs.Pairs.{AreZero};
 
 use crate::halt::Halt;
 use crate::last_letters::last_letters;
+use crate::meeting::all_told;
 use crate::pairs::relations;
 use crate::steps::{put_x, steps};
 use crate::units::{units_left, units_right};
@@ -72,9 +74,11 @@ fn later_relations(
     pres: &Presentation,
     table: &Table,
     rows: &mut Rows,
+    told: bool,
     j: u32,
 ) -> Result<(), Halt>
     requires names { last_of table.now ≡ length pres.now.names }
+    requires told { IsTrue told → AllTold (relations_of pres.now) table.now }
     requires least { table.now.level ≤ j }
     requires most { j ≤ last_of table.now }
     requires rows { HasRows table.now rows.old }
@@ -86,7 +90,7 @@ fn later_relations(
 {
     let end = table.last() + 1;
     for l in j + 1..end {
-        relations(alloc, pres, table, rows, j, l)?;
+        relations(alloc, pres, table, rows, told, j, l)?;
     }
     Ok(())
 }
@@ -97,9 +101,10 @@ pub fn all_relations(alloc: Global, pres: &Presentation, table: &Table) -> Resul
     ensures { WalksIn (relations_of pres.now) table.now
         (flat_map (relation_events (xs table.now) (last_of table.now)) (xs table.now)) result }
 {
+    let told = all_told(pres, table);
     let mut rows = table.rows(alloc)?;
     for j in table.level()..table.last() + 1 {
-        later_relations(alloc, pres, table, &mut rows, j)?;
+        later_relations(alloc, pres, table, &mut rows, told, j)?;
     }
     Ok(())
 }
