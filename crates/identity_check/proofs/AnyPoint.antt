@@ -1,6 +1,6 @@
 -- Any point agrees, at the variables of a table, with two vectors.
 --   t table · k m generators · a point
-use Rattle.std.proofs.Common.{◌≡◌, ℕ, ◌-◌, ◌<◌, ◌≤◌, List, length, sym, ◌∙◌, arith}
+use Rattle.std.proofs.Common.{◌≡◌, ℕ, ◌-◌, ◌<◌, ◌≤◌, List, sym, ◌∙◌, arith}
 use Rattle.std.proofs.lemmas.List.{get_or_past}
 use lib.IntN.{ℤ, pos}
 use Rattle.nil_word.specs.Words.{IsVector}

@@ -2,9 +2,8 @@
 -- a table whose sizes fit none of the identities stops.
 --   rels a presentation · t table · j < l and k m generators, ms a list of them
 use Rattle.std.proofs.Common.{◌≡◌, ℕ, suc, ◌-◌, ◌<◌, ◌≤◌, List, ◌++◌, length, Contains, subst, arith, inl, inr}
-use Rattle.std.specs.List.{flat_map}
 use Rattle.std.proofs.lemmas.List.Elements.{All-append, All-contains}
-use lib.IntN.{ℤ, pos}
+use lib.IntN.{pos}
 use Rattle.nil_word.specs.Congruence.{Relations, IsAbove}
 use Rattle.nil_pres.specs.Presented.{Presented}
 use Rattle.nil_pres.specs.Relations.{relations_of}

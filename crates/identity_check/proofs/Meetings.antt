@@ -2,22 +2,20 @@
 -- is the polynomial.
 --   rels a presentation · t table · j < l and k m generators · v variable · a point · ms monomial
 --   p q parts · i place
-use Rattle.std.proofs.Common.{◌≡◌, ◌≢◌, ℕ, zero, suc, ◌+◌, ◌-◌, ◌^◌, ◌<◌, ◌≤◌, Bool, true, false, List, [], ◌∷◌, length, slice_index_or, refl, sym, ap, ◌∙◌, subst, arith, inl, inr}
-use Rattle.std.specs.Prelude.{All, ◌⊎◌, HoldsAt, nat_le, unsigned_abs}
+use Rattle.std.proofs.Common.{◌≡◌, ◌≢◌, ℕ, ◌+◌, ◌-◌, ◌^◌, ◌<◌, ◌≤◌, true, false, List, [], ◌∷◌, length, slice_index_or, refl, sym, ap, ◌∙◌, subst, arith, inl, inr}
+use Rattle.std.specs.Prelude.{All, ◌⊎◌, nat_le, unsigned_abs}
 use Rattle.std.proofs.lemmas.Bool.{cases_lt}
 use Rattle.std.proofs.lemmas.Bool.Decides.{eqb_tells}
 use Rattle.std.proofs.lemmas.List.{get_or_default}
 use Rattle.std.proofs.lemmas.List.Elements.{All-head, All-tail}
-use Rattle.std.proofs.lemmas.Int.{ints}
 use lib.IntN.{ℤ, pos, ◌*ℤ◌, *ℤ-zero}
 use Rattle.nil_word.specs.Congruence.{Relations}
 use Rattle.nil_word.specs.Exponents.{entry}
-use Rattle.integer.specs.Binomial.{choose}
 use Rattle.binom_poly.specs.declared.part.Part.{Part}
 use Rattle.binom_poly.specs.declared.term.Term.{Term}
 use Rattle.binom_poly.specs.Variable.{y_of}
-use Rattle.binom_poly.specs.Monomial.{IsMonomial, IsMonomialAbove}
-use Rattle.binom_poly.specs.Polynomial.{monomial_value, value_of}
+use Rattle.binom_poly.specs.Monomial.{IsMonomial}
+use Rattle.binom_poly.specs.Polynomial.{monomial_value}
 use Rattle.binom_poly.specs.Reading.{Reading}
 use Rattle.binom_poly.specs.Readings.{value_at, magnitude_of}
 use Rattle.hall_law.specs.Table.{single}
@@ -27,11 +25,11 @@ use Rattle.hall_table.specs.Order.{sum_overflows}
 use Rattle.hall_table.proofs.Covering.{poly_lower}
 use Rattle.hall_table.proofs.Entries.{is_lower-bounds_x, is_lower-bounds_y}
 use Rattle.identity_check.specs.declared.identity.Identity.TheVariants.{Relation}
-use Rattle.identity_check.specs.Sides.{unit_vector, entry_of_pair}
+use Rattle.identity_check.specs.Sides.{entry_of_pair}
 use Rattle.identity_check.specs.Pairs.{PutPair}
-use Rattle.identity_check.specs.Meeting.{IsApart, IsTold, AllTold}
+use Rattle.identity_check.specs.Meeting.{IsApart, AllTold}
 use Rattle.identity_check.specs.Events.Event.{tries}
-use Rattle.identity_check.proofs.Agreeing.{Bounds, bounds_of, IsOf, form_at, all_terms, entry-single_same, entry-single_other}
+use Rattle.identity_check.proofs.Agreeing.{bounds_of, IsOf, form_at, all_terms, entry-single_same, entry-single_other}
 use Rattle.identity_check.proofs.Halting.{NoneOf}
 use Rattle.identity_check.proofs.PairEntries.{not_above}
 use Rattle.identity_check.proofs.PutPairs.{pair_holds}

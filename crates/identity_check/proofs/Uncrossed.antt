@@ -1,7 +1,7 @@
 -- Where each term but x_k and y_k crosses, a table's values make a candidate: nothing is changed by
 -- 0, and a last generator is added.
 --   t table · k m j generators · b point · x y vectors · p polynomial
-use Rattle.std.proofs.Common.{◌≡◌, ◌≢◌, ℕ, suc, ◌+◌, ◌-◌, ◌<◌, ◌≤◌, List, [], ◌∷◌, sym, ap, ◌∙◌, subst, arith, inl, inr}
+use Rattle.std.proofs.Common.{◌≡◌, ◌≢◌, ℕ, ◌<◌, ◌≤◌, List, [], ◌∷◌, sym, ap, ◌∙◌, subst, arith, inl, inr}
 use Rattle.std.specs.Prelude.{All, ◌⊎◌}
 use Rattle.std.proofs.lemmas.Bool.{cases_lt}
 use Rattle.std.proofs.lemmas.Bool.Decides.{eqb_tells}
@@ -15,9 +15,7 @@ use Rattle.hall_law.specs.Shape.{cut}
 use Rattle.hall_law.specs.Nucleus.{IsCandidate}
 use Rattle.hall_law.proofs.Cutting.{entry-cut_below, entry-cut_above}
 use Rattle.hall_law.proofs.Vectors.{IsAt, at_of, IsAt-added, entry-zeros, entry-added_same, entry-added_other}
-use Rattle.binom_poly.specs.declared.part.Part.{Part}
 use Rattle.binom_poly.specs.declared.term.Term.{Term}
-use Rattle.binom_poly.specs.Variable.{y_of}
 use Rattle.binom_poly.specs.Polynomial.{monomial_value, value_of}
 use Rattle.hall_table.specs.Tabled.{Tabled, IsTabled, last_of, poly_at}
 use Rattle.hall_table.specs.Values.{point_of, values}

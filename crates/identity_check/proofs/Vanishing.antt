@@ -5,7 +5,7 @@ use Rattle.std.specs.Prelude.{All, ◌⊎◌}
 use Rattle.std.proofs.lemmas.Bool.{cases_lt}
 use Rattle.std.proofs.lemmas.Bool.Decides.{eqb_tells}
 use Rattle.std.proofs.lemmas.List.Elements.{All-nil, All-cons}
-use lib.IntN.{ℤ, pos, ◌*ℤ◌, ◌+ℤ◌, zero-*ℤ, *ℤ-zero}
+use lib.IntN.{ℤ, pos, ◌*ℤ◌, zero-*ℤ, *ℤ-zero}
 use Rattle.integer.specs.Binomial.{choose}
 use Rattle.integer.proofs.Binomial.{choose_past}
 use Rattle.binom_poly.specs.declared.part.Part.{Part}
